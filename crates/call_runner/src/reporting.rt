@@ -20,7 +20,7 @@ use aidl_schema::method_of_code;
 use aidl_values::Value;
 use call_scripts::Call;
 use std::alloc::Global;
-use stub_dispatch::{Callee, Got, Side, reply};
+use stub_dispatch::{Callee, Got, Side, read_answer};
 
 // What a call comes to. Where a reply was carried, its method isn't oneway to the client.
 pub fn report(
@@ -92,7 +92,7 @@ fn got_by(
         ≡ receiver.client profile client.now call.now.interface call.now.method bytes.now) }
 {
     let callee = Callee::new(client, call.interface, call.method);
-    reply(alloc, profile, &callee, bytes)
+    read_answer(alloc, profile, &callee, bytes)
 }
 
 // What a call comes to where no reply was sent.

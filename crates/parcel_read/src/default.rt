@@ -1,7 +1,7 @@
 //! The defaults of fields that a record leaves out, by plans.
 ghost use Rattle.std.specs.Prelude.{◌≡◌, if◌then◌else◌, map, IfOk};
-ghost use Rattle.aidl_values.specs.Data.{null, seq, rec, none};
-ghost use Rattle.aidl_values.specs.View.{view, views};
+ghost use Rattle.aidl_values.specs.Data.{null, seq, none};
+ghost use Rattle.aidl_values.specs.View.{view};
 ghost use Rattle.parcel_read.specs.steps.PlanDefault.{entry_default, first_default, initial_by_plan, item_default, plan_default, plan_default_parts, word_default};
 
 use aidl_base::{OutOfMemory, Row, Text};
@@ -63,7 +63,10 @@ fn default_of_item(
                 first,
                 count,
             },
-        ) => Ok(record(initials(alloc, plans, plans.entries(first, count), levels)?)),
+        ) => {
+            let values = initials(alloc, plans, plans.entries(first, count), levels)?;
+            Ok(Value::Rec(Fields::Whole(values)))
+        }
         Some(PlanItem::Alt { nullable: true, .. }) => Ok(Value::Null),
         Some(
             PlanItem::Alt {
@@ -91,12 +94,6 @@ fn no_elements(alloc: Global, nullable: bool) -> Value
         return Value::Null;
     }
     Value::Seq(Elements::Values(Row::new(alloc)))
-}
-
-fn record(values: Row<Value>) -> Value
-    ensures { view result ≡ rec (views values) }
-{
-    Value::Rec(Fields::Whole(values))
 }
 
 #[cycle(default)]

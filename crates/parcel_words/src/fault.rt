@@ -5,6 +5,9 @@ ghost use Rattle.parcel_words.specs.declared.fault.ReadFault.TheVariants.{OutOfM
 use aidl_base::OutOfMemory;
 use std::alloc::{AllocError, AllocFailed};
 
+/// BAD_VALUE: an item isn't one that can be read or written (libutils, Errors.h).
+pub const BAD_VALUE: i32 = -22;
+
 /// Why nothing was read.
 #[derive(Clone, Copy, Debug, PartialEq, Eq)]
 pub enum ReadFault {
@@ -29,7 +32,7 @@ impl ReadFault {
         match self {
             ReadFault::NotEnough => Some(-61),
             ReadFault::UnexpectedNull => Some(-2_147_483_640),
-            ReadFault::BadValue => Some(-22),
+            ReadFault::BadValue => Some(BAD_VALUE),
             ReadFault::OutOfMemory => None,
         }
     }

@@ -10,7 +10,7 @@ mod units;
 mod wire;
 mod writer;
 
-pub use fault::ReadFault;
+pub use fault::{BAD_VALUE, ReadFault};
 pub use laws::{law_no_prefix, law_sequence_no_prefix, law_sequence_taken_again, law_taken_again};
 pub use reader::WordReader;
 pub use sequence::{put_sequence, sequence_length, take_items, take_sequence};

@@ -175,13 +175,21 @@ impl<'a> WordReader<'a> {
 
     /// Takes a size word and opens its record. It refuses a word that passes the limit as `word` does, a size below 4
     /// or no multiple of 4 by `BadValue`, and a size that passes the limit as an item that does.
+    #[tactic(auto, unfolding(crate::specs::Place::size_at))]
     pub fn enter(&mut self) -> Result<(), ReadFault>
         requires { length self.old.ends < 64 }
         ensures entered { OnOk result (Enters self.old self.new) }
         ensures refused { IfErr result (λ e. Refuses e (here size_at self.old)) }
         ensures unchanged { OnErr result (self.new ≡ self.old) }
     {
-        let size = self.next_size()?;
+        let word = self.next_word()?;
+        if word < 4 || word % 4 != 0 {
+            return Err(ReadFault::BadValue);
+        }
+        let size = word as usize;
+        if self.rest().len() < size {
+            return Err(self.past());
+        }
         self.open_record(size);
         Ok(())
     }
@@ -266,24 +274,6 @@ impl<'a> WordReader<'a> {
     {
         let item = self.item(4)?;
         Ok(i32::from_le_bytes([item[0], item[1], item[2], item[3]]))
-    }
-
-    /// The size of the record that begins here.
-    #[tactic(auto, unfolding(crate::specs::Place::size_at))]
-    fn next_size(&self) -> Result<usize, ReadFault>
-        ensures size { Takes (λ z. z) result (here size_at self.now) (drop 4 (left self.now)) }
-        ensures least { IfOk result (λ z. 4 ≤ z) }
-        ensures fits { IfOk result (λ z. z ≤ length (left self.now)) }
-    {
-        let word = self.next_word()?;
-        if word < 4 || word % 4 != 0 {
-            return Err(ReadFault::BadValue);
-        }
-        let size = word as usize;
-        if self.rest().len() < size {
-            return Err(self.past());
-        }
-        Ok(size)
     }
 
     /// Goes on by so many bytes of those that are left.

@@ -3,7 +3,7 @@ ghost use Rattle.std.specs.Prelude.{◌≡◌, ◌+◌, ◌*◌, ◌≤◌, leng
 ghost use Rattle.std.specs.Int.{w16, from_le_bytes};
 ghost use Rattle.std.specs.Str.{IsAscii};
 ghost use Rattle.std.specs.Char.Utf16.{has_unpaired_surrogate, utf16_lossy_chars};
-ghost use Rattle.aidl_base.specs.Readings.{units_of, ends_text, text_of};
+ghost use Rattle.aidl_base.specs.Readings.{units_of, text_of};
 
 use crate::padding::is_zero;
 use aidl_base::{OutOfMemory, Profile, Text};
@@ -14,7 +14,7 @@ const SHORT: usize = 16;
 
 /// The text of a block of so many units. None where the units aren't well-formed UTF-16, the unit after them isn't
 /// zero, or the profile doesn't permit the padding.
-#[tactic(auto, unfolding(aidl_base::specs::Readings::text_of))]
+#[tactic(auto, unfolding(aidl_base::specs::Readings::text_of, aidl_base::specs::Readings::ends_text))]
 pub fn text_of(
     alloc: Global,
     profile: Profile,
@@ -26,20 +26,12 @@ pub fn text_of(
 {
     let (bytes, tail) = block.split_at(2 * count);
     let text = text_in(alloc, bytes)?;
-    if ends_text(profile, tail) {
+    let (zero_unit, padding) = tail.split_at(2);
+    if is_zero(zero_unit) && profile.permits(is_zero(padding)) {
         Ok(text)
     } else {
         Ok(None)
     }
-}
-
-/// Whether a zero unit stands here, and padding that the profile permits.
-fn ends_text(profile: Profile, tail: &[u8]) -> bool
-    requires { 2 ≤ length tail.now }
-    ensures { result ≡ ends_text profile tail.now }
-{
-    let (zero_unit, padding) = tail.split_at(2);
-    is_zero(zero_unit) && profile.permits(is_zero(padding))
 }
 
 /// The text of units, two bytes each. Those of ASCII are taken as they stand.
@@ -59,18 +51,9 @@ fn ascii_text(alloc: Global, pairs: &[[u8; 2]]) -> Result<Option<Text>, OutOfMem
     ensures { IfOk result (λ o. IfSome o
         (λ text. (text ≡ map (from_le_bytes w16) pairs.now) × IsAscii text)) }
 {
-    if pairs.len() <= SHORT {
-        short_text(alloc, pairs)
-    } else {
-        long_text(alloc, pairs)
+    if SHORT < pairs.len() {
+        return long_text(alloc, pairs);
     }
-}
-
-fn short_text(alloc: Global, pairs: &[[u8; 2]]) -> Result<Option<Text>, OutOfMemory>
-    requires { length pairs.now ≤ 16 }
-    ensures { IfOk result (λ o. IfSome o
-        (λ text. (text ≡ map (from_le_bytes w16) pairs.now) × IsAscii text)) }
-{
     let mut bytes = [0; SHORT];
     let front = &mut bytes[..pairs.len()];
     if !is_ascii_put(pairs, front) {

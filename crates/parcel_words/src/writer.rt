@@ -162,9 +162,10 @@ impl WordWriter {
         ensures { self.new ≡ with_bytes self.old (unit_bytes (units (chars text.now))) }
     {
         if text.is_ascii() {
-            self.narrow(text.as_bytes());
-        } else {
-            self.characters(text);
+            return self.narrow(text.as_bytes());
+        }
+        for c in text.chars() {
+            self.character(c);
         }
     }
 
@@ -193,16 +194,6 @@ impl WordWriter {
         let front = &mut pairs[..units.len()];
         put_pairs(units, front);
         self.append(front.as_flattened());
-    }
-
-    /// Appends the units of a text, character by character.
-    fn characters(&mut self, text: &str)
-        requires { length (unit_bytes (units (chars text.now))) ≤ self.old.room }
-        ensures { self.new ≡ with_bytes self.old (unit_bytes (units (chars text.now))) }
-    {
-        for c in text.chars() {
-            self.character(c);
-        }
     }
 
     /// Appends the units of a character, one or two.
@@ -258,17 +249,8 @@ pub fn unit_count(text: &str) -> usize
     ensures small { result < 2 ^ 63 }
 {
     if text.is_ascii() {
-        text.len()
-    } else {
-        count_units(text)
+        return text.len();
     }
-}
-
-// The same, character by character.
-fn count_units(text: &str) -> usize
-    ensures count { result ≡ length (units (chars text.now)) }
-    ensures small { result < 2 ^ 63 }
-{
     let mut count = 0;
     for c in text.chars() {
         count += c.len_utf16();

@@ -1,17 +1,13 @@
 //! What a service answers a request.
-ghost use Rattle.std.specs.Prelude.{◌≡◌, pos, IfOk};
+ghost use Rattle.std.specs.Prelude.{IfOk};
 ghost use Rattle.aidl_values.specs.View.{views};
 ghost use Rattle.stub_dispatch.specs.Answers.{AnswersCall};
 ghost use Rattle.stub_dispatch.specs.Handlers.{AnswersFit, MayBeCalled};
-ghost use Rattle.stub_dispatch.specs.Sent.{sent_reply, unread};
-ghost use Rattle.wire_model.specs.Calls.{answer_of};
-ghost use Rattle.wire_model.specs.Requests.{AnswerFits};
 ghost use Rattle.wire_model.specs.Typed.{AreArguments};
 
 use crate::callee::Callee;
-use crate::sending::{answer_reply, unread_reply};
+use crate::sending::answer_reply;
 use aidl_base::{OutOfMemory, Row};
-use aidl_schema::Schema;
 use aidl_values::{Answer, Value};
 use std::alloc::Global;
 
@@ -22,27 +18,6 @@ pub struct Answered {
     pub transport: i32,
     pub saw: Option<Row<Value>>,
     pub reply: Option<Row<u8>>,
-}
-
-/// What is answered where bytes are left over.
-pub fn answer_unread(
-    alloc: Global,
-    schema: &Schema,
-    interface: u32,
-    method: u32,
-) -> Result<Answered, OutOfMemory>
-    ensures { IfOk result (λ answered. answered ≡ record {
-      transport = pos 0;
-      saw = None;
-      reply = sent_reply schema.now.decls interface method unread;
-    }) }
-{
-    let reply = unread_reply(alloc, schema, interface, method)?;
-    Ok(Answered {
-        transport: 0,
-        saw: None,
-        reply,
-    })
 }
 
 /// What is answered by a call of the handler.
@@ -61,23 +36,10 @@ pub fn answer_call<F: Fn(u32, &[Value]) -> Result<Answer, OutOfMemory>>(
 {
     let method = callee.method();
     let answer = handler(method, saw.as_slice())?;
-    let reply = reply_of(alloc, callee, answer)?;
+    let reply = answer_reply(alloc, callee, &answer)?;
     Ok(Answered {
         transport: 0,
         saw: Some(saw),
         reply,
     })
-}
-
-// The bytes of the reply with an answer, which is let go.
-fn reply_of(
-    alloc: Global,
-    callee: &Callee<'_>,
-    answer: Answer,
-) -> Result<Option<Row<u8>>, OutOfMemory>
-    requires { AnswerFits callee.now.decls callee.now.interface callee.now.method (answer_of answer) }
-    ensures { IfOk result (λ reply. reply
-        ≡ sent_reply callee.now.decls callee.now.interface callee.now.method (answer_of answer)) }
-{
-    answer_reply(alloc, callee, &answer)
 }

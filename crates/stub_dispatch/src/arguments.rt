@@ -55,22 +55,15 @@ fn argument_from(
     }
 }
 
-// The sum of the lengths with that of an argument.
+// The sum of the lengths with the number of items that an argument starts with, which only an `out` one does.
 fn sum_with(sum: usize, arg: &Arg, value: &Value) -> usize
     requires { sum + opened_length arg.now (view value.now) ≤ 65536 }
     ensures sum { result ≡ sum + opened_length arg.now (view value.now) }
     ensures few { result ≤ 65536 }
 {
-    sum + opened_length(arg, value)
-}
-
-// How many items an `out` argument starts with, and 0 of any other argument.
-fn opened_length(arg: &Arg, value: &Value) -> usize
-    ensures { result ≡ opened_length arg.now (view value.now) }
-{
     match arg.way {
-        Direction::In | Direction::InOut => 0,
-        Direction::Out => items_in(value),
+        Direction::In | Direction::InOut => sum,
+        Direction::Out => sum + items_in(value),
     }
 }
 

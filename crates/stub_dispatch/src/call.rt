@@ -2,12 +2,11 @@
 ghost use Rattle.std.specs.Prelude.{◌≡◌, ◌<◌, length, not, Some};
 ghost use Rattle.aidl_schema.specs.Find.{methods_at};
 ghost use Rattle.aidl_schema.specs.Methods.{is_in_way};
-ghost use Rattle.marshal_plans.specs.Standing.{IsOf};
 ghost use Rattle.stub_dispatch.specs.Planned.{ArePlansOf};
-ghost use Rattle.stub_dispatch.specs.steps.Arguments.{ArePlanned, IsPlanned, IsResultOf, IsResultPlanned};
+ghost use Rattle.stub_dispatch.specs.steps.Arguments.{ArePlanned, IsResultOf, IsResultPlanned};
 ghost use Rattle.wire_model.specs.Calls.{arguments, is_out, method_at, result_type};
 
-use aidl_schema::{AidlType, Arg, Direction, Method, Schema, law_valid, methods_at};
+use aidl_schema::{Direction, Method, Schema, law_valid, methods_at};
 use marshal_plans::{PlanId, Plans};
 
 /// The method with a number of an interface.
@@ -30,32 +29,14 @@ pub fn law_planned(schema: &Schema, plans: &Plans, interface: u32, method: u32)
     law_valid(schema);
 }
 
-/// The id of an argument, by its position.
-pub fn argument_id(
-    _schema: &Schema,
-    plans: &Plans,
-    interface: u32,
-    method: u32,
-    k: u32,
-    _arg: &Arg,
-) -> PlanId
-    requires { IsPlanned plans.now _schema.now.decls interface method k _arg.now }
-    ensures { IsOf plans.now result _schema.now.decls _arg.now.ty }
-{
-    plans.argument(interface, method, k)
-}
-
 /// The id of a method's result, None of a void method.
-pub fn result_id(
-    _schema: &Schema,
-    plans: &Plans,
-    interface: u32,
-    method: u32,
-    _result: Option<AidlType>,
-) -> Option<PlanId>
-    requires { IsResultPlanned plans.now _schema.now.decls interface method _result }
-    ensures { IsResultOf plans.now _schema.now.decls _result result }
+pub fn result_id(schema: &Schema, plans: &Plans, interface: u32, method: u32) -> Option<PlanId>
+    requires plans { ArePlansOf plans.now schema.now.decls }
+    requires there { method < length (methods_at schema.now.decls interface) }
+    ensures { IsResultOf plans.now schema.now.decls
+        (result_type schema.now.decls interface method) result }
 {
+    law_planned(schema, plans, interface, method);
     plans.result(interface, method)
 }
 

@@ -109,9 +109,8 @@ impl<'a> Callee<'a> {
           ty = ty;
         } in of) (result_type self.now.decls self.now.interface self.now.method) }
     {
-        law_planned(self.schema, self.plans, self.interface, self.method);
         let ty = method_of(self.schema, self.interface, self.method).result;
-        let id = result_id(self.schema, self.plans, self.interface, self.method, ty);
+        let id = result_id(self.schema, self.plans, self.interface, self.method);
         match (ty, id) {
             (Some(ty), Some(id)) => Some(PlannedType::new(self.schema, self.plans, ty, id)),
             _ => None,

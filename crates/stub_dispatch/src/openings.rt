@@ -4,7 +4,7 @@ ghost use Rattle.aidl_schema.specs.Types.{elem, is_type};
 ghost use Rattle.aidl_values.specs.Data.{number, seq, truth};
 ghost use Rattle.aidl_values.specs.View.{datas, items_of, view, views};
 ghost use Rattle.parcel_words.specs.Taken.{TakesIfMemory};
-ghost use Rattle.wire_model.specs.Receiver.{array_opening, array_opening_at, length_at, opening, opening_at, repeated};
+ghost use Rattle.wire_model.specs.Receiver.{length_at, opening, opening_at, repeated};
 
 use crate::call_reader::CallReader;
 use crate::status::MOST_ITEMS;
@@ -25,13 +25,22 @@ pub fn opening(
     requires { is_type schema.now.decls ty ≡ true }
     ensures { IfOk result (λ v. view v ≡ opening schema.now.decls ty length) }
 {
-    if is_array(ty.shape) {
-        return array_opening(alloc, schema, ty, length);
+    law_valid(schema);
+    if !is_array(ty.shape) {
+        return default_of(alloc, schema, &ty);
     }
-    default_of(alloc, schema, &ty)
+    match length {
+        None => Ok(Value::Null),
+        Some(n) => {
+            let one = element(schema, ty);
+            let value = default_of(alloc, schema, &one)?;
+            repeated(alloc, &value, &form_in(schema, one.base), n)
+        }
+    }
 }
 
 /// An `out` argument: an array has its length word, any other has nothing. `sum` is that of the lengths before.
+#[tactic(auto, unfolding(wire_model::specs::Receiver::array_opening_at))]
 pub fn opening_from(
     alloc: Global,
     schema: &Schema,
@@ -45,29 +54,11 @@ pub fn opening_from(
         (opening_at schema.now.decls sum ty from.old.bytes) from.new.bytes }
     ensures same { OnOk result (from.new.profile ≡ from.old.profile) }
 {
-    if is_array(ty.shape) {
-        return array_from(alloc, schema, ty, sum, from);
+    if !is_array(ty.shape) {
+        return Ok(default_of(alloc, schema, &ty)?);
     }
-    Ok(default_of(alloc, schema, &ty)?)
-}
-
-// The length word of an `out` array, as what the array starts as.
-#[tactic(auto, unfolding(wire_model::specs::Receiver::array_opening_at))]
-fn array_from(
-    alloc: Global,
-    schema: &Schema,
-    ty: AidlType,
-    sum: usize,
-    from: &mut CallReader<'_>,
-) -> Result<Value, ReadFault>
-    requires known { is_type schema.now.decls ty ≡ true }
-    requires few { sum ≤ 65536 }
-    ensures taken { TakesIfMemory view result
-        (array_opening_at schema.now.decls sum ty from.old.bytes) from.new.bytes }
-    ensures same { OnOk result (from.new.profile ≡ from.old.profile) }
-{
     let length = length_from(ty.nullable, sum, from)?;
-    Ok(array_opening(alloc, schema, ty, length)?)
+    Ok(opening(alloc, schema, ty, length)?)
 }
 
 // The length of an `out` array, where None is null.
@@ -89,27 +80,6 @@ fn length_from(
                 return Err(ReadFault::BadValue);
             }
             Ok(Some(n))
-        }
-    }
-}
-
-// What an array of so many items starts as, where None is null.
-fn array_opening(
-    alloc: Global,
-    schema: &Schema,
-    ty: AidlType,
-    length: Option<usize>,
-) -> Result<Value, OutOfMemory>
-    requires { is_type schema.now.decls ty ≡ true }
-    ensures { IfOk result (λ v. view v ≡ array_opening schema.now.decls ty length) }
-{
-    law_valid(schema);
-    match length {
-        None => Ok(Value::Null),
-        Some(n) => {
-            let one = element(schema, ty);
-            let value = default_of(alloc, schema, &one)?;
-            repeated(alloc, &value, &form_in(schema, one.base), n)
         }
     }
 }

@@ -3,7 +3,6 @@ ghost use Rattle.std.specs.Prelude.{◌≡◌};
 ghost use Rattle.stub_dispatch.specs.steps.Arguments.{ArePlanned};
 ghost use Rattle.stub_dispatch.specs.steps.Planned.{BeginsWith};
 
-use crate::call::argument_id;
 use crate::planned_type::PlannedType;
 use aidl_schema::{Arg, Schema};
 use marshal_plans::Plans;
@@ -48,9 +47,8 @@ impl<'a> PlannedArgument<'a> {
     pub fn ty(&self) -> PlannedType<'a>
         ensures { result ≡ record { decls = self.now.decls; ty = self.now.arg.ty } }
     {
-        let (schema, plans, arg) = (self.schema, self.plans, self.arg);
-        let id = argument_id(schema, plans, self.interface, self.method, self.place, arg);
-        PlannedType::new(schema, plans, arg.ty, id)
+        let id = self.plans.argument(self.interface, self.method, self.place);
+        PlannedType::new(self.schema, self.plans, self.arg.ty, id)
     }
 }
 

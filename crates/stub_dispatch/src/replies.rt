@@ -1,11 +1,11 @@
 //! What a client makes of a reply.
-ghost use Rattle.std.specs.Prelude.{◌≡◌, false, IfOk, OnOk};
+ghost use Rattle.std.specs.Prelude.{◌≡◌, IfOk, OnOk};
 ghost use Rattle.aidl_values.specs.View.{views};
 ghost use Rattle.parcel_words.specs.Taken.{TakesIfMemory};
 ghost use Rattle.stub_dispatch.specs.Got.{got_of};
 ghost use Rattle.stub_dispatch.specs.steps.Fronts.{Continues};
 ghost use Rattle.stub_dispatch.specs.steps.Replies.{IsAnswer};
-ghost use Rattle.wire_model.specs.Calls.{answer_of, is_oneway, optional_view, out_types, outs_of, result_type};
+ghost use Rattle.wire_model.specs.Calls.{answer_of, optional_view, out_types, outs_of, result_type};
 ghost use Rattle.wire_model.specs.Receiver.{client, error_at, exception_at, is_refused_status, result_at, returned_at, status_at, values_at};
 
 use crate::call::comes_back;
@@ -52,30 +52,15 @@ impl Drop for Got {
     }
 }
 
-/// What a client makes of the bytes of a reply, by a profile: the answer that they are exactly, or else the status of the first wrong
-/// item.
-pub fn reply(
-    alloc: Global,
-    profile: Profile,
-    callee: &Callee<'_>,
-    bytes: &[u8],
-) -> Result<Got, OutOfMemory>
-    requires two_way { is_oneway callee.now.decls callee.now.interface callee.now.method ≡ false }
-    // An answer is what the client reads, and a failure has the status with which reading stops.
-    ensures { IfOk result (λ got. got_of got
-        ≡ client profile callee.now.decls callee.now.interface callee.now.method bytes.now) }
-{
-    read_answer(alloc, profile, callee, bytes)
-}
-
-/// What bytes are as a reply of a method, by a profile, whether or not the method is oneway: the answer that they are exactly, or else
-/// the status of the first wrong item.
+/// What a client makes of the bytes of a reply of a method, by a profile, whether or not the method is oneway: the answer that they are
+/// exactly, or else the status of the first wrong item.
 pub fn read_answer(
     alloc: Global,
     profile: Profile,
     callee: &Callee<'_>,
     bytes: &[u8],
 ) -> Result<Got, OutOfMemory>
+    // An answer is what the client reads, and a failure has the status with which reading stops.
     ensures { IfOk result (λ got. got_of got
         ≡ client profile callee.now.decls callee.now.interface callee.now.method bytes.now) }
 {

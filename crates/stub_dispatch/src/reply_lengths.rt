@@ -1,9 +1,9 @@
 //! The length of a reply.
-ghost use Rattle.std.specs.Prelude.{◌≡◌, ◌≤◌, length, min};
+ghost use Rattle.std.specs.Prelude.{◌≡◌, ℤ, length, min};
 ghost use Rattle.aidl_values.specs.View.{views};
 ghost use Rattle.stub_dispatch.specs.Exceptions.{spell_exception};
 ghost use Rattle.wire_model.specs.Calls.{answer_of, optional_view, out_types, outs_of, result_type, returned};
-ghost use Rattle.wire_model.specs.Requests.{EachFits, IsAnswer, ResultFits, reply, spell_each, spell_error, spell_result};
+ghost use Rattle.wire_model.specs.Requests.{EachFits, IsAnswer, ResultFits, reply, spell_each, spell_result};
 
 use crate::call::comes_back;
 use crate::callee::Callee;
@@ -25,8 +25,8 @@ pub fn reply_length(callee: &Callee<'_>, answer: &Answer, most: usize) -> usize
         Answer::Exception {
             code,
             message,
-            error,
-        } => exception_length(*code, message, *error).min(most),
+            error: _,
+        } => exception_length(*code, message).min(most),
     }
 }
 
@@ -92,18 +92,12 @@ fn outs_length(args: &PlannedArguments<'_>, values: &[Value], most: usize) -> us
 
 /// The number of bytes of the reply of an exception, or `usize::MAX` where they are more.
 #[tactic(auto, using(crate::proofs::lemmas::Parts::exception_count))]
-pub fn exception_length(code: i32, message: &Text, error: i32) -> usize
-    ensures { result ≡ min (length (spell_exception code message.now error)) usize.MAX }
+pub fn exception_length(code: i32, message: &Text) -> usize
+    ensures { (error : ℤ) → result
+        ≡ min (length (spell_exception code message.now error)) usize.MAX }
 {
-    message
-        .length()
-        .saturating_add(8 + error_length(code, error))
-}
-
-// The number of bytes of the error word, which only a service's own exception has.
-fn error_length(code: i32, _error: i32) -> usize
-    ensures size { result ≡ length (spell_error code _error) }
-    ensures few { result ≤ 4 }
-{
-    if code == SERVICE_SPECIFIC { 4 } else { 0 }
+    if code == SERVICE_SPECIFIC {
+        return message.length().saturating_add(12);
+    }
+    message.length().saturating_add(8)
 }

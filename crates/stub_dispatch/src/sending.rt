@@ -54,21 +54,13 @@ pub fn unread_reply(
 }
 
 /// The bytes of the reply to a request with bytes left over: an exception, the same of every method that isn't oneway.
-#[tactic(auto, using(crate::proofs::Unread::unread_small))]
+#[tactic(auto, using(crate::proofs::Unread::unread_small, crate::proofs::Unread::unread_chars))]
 pub fn unread_bytes(alloc: Global) -> Result<Vec<u8>, OutOfMemory>
     ensures { IfOk result (λ bytes. bytes.items
         ≡ spell_exception (negsuc 1) (codes "unread argument bytes") (pos 0)) }
 {
-    let message = unread_message(alloc)?;
+    let message = Text::from_str(alloc, "unread argument bytes")?;
     exception_bytes(alloc, BAD_PARCELABLE, &message, 0)
-}
-
-// The message where bytes are left over.
-#[tactic(auto, using(crate::proofs::Unread::unread_chars))]
-fn unread_message(alloc: Global) -> Result<Text, OutOfMemory>
-    ensures { IfOk result (λ text. text ≡ codes "unread argument bytes") }
-{
-    Text::from_str(alloc, "unread argument bytes")
 }
 
 // Whether a method is oneway.
@@ -185,22 +177,13 @@ fn exception_bytes(
     requires { length (spell_exception code message.now error) ≤ 1048576 }
     ensures { IfOk result (λ bytes. bytes.items ≡ spell_exception code message.now error) }
 {
-    let length = exception_length(code, message, error);
+    let length = exception_length(code, message);
     let mut to = WordWriter::with_room(alloc, length)?;
-    put_exception(code, message, error, &mut to);
-    Ok(to.finish())
-}
-
-// Appends an exception.
-fn put_exception(code: i32, message: &Text, error: i32, to: &mut WordWriter)
-    requires small { length (spell_exception code message.now error) ≤ 1048576 }
-    requires room { length (spell_exception code message.now error) ≤ to.old.room }
-    ensures { to.new ≡ with_bytes to.old (spell_exception code message.now error) }
-{
     to.word(code);
-    message.put(to);
+    message.put(&mut to);
     to.word(0);
-    put_error(code, error, to);
+    put_error(code, error, &mut to);
+    Ok(to.finish())
 }
 
 // Appends the error word, where there is one.

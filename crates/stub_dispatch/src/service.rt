@@ -4,9 +4,10 @@ ghost use Rattle.stub_dispatch.specs.Answers.{Answers};
 ghost use Rattle.stub_dispatch.specs.Handlers.{AnswersFit, MayBeCalled};
 ghost use Rattle.wire_model.specs.Receiver.{stub};
 
-use crate::answered::{Answered, answer_call, answer_unread};
+use crate::answered::{Answered, answer_call};
 use crate::callee::Callee;
 use crate::receiving::{Receipt, receive};
+use crate::sending::unread_reply;
 use crate::side::Side;
 use aidl_base::{OutOfMemory, Profile};
 use aidl_values::{Answer, Value};
@@ -84,7 +85,11 @@ impl<'a, 'b, F: Fn(u32, &[Value]) -> Result<Answer, OutOfMemory>> Service<'a, 'b
                 saw: None,
                 reply: None,
             }),
-            Receipt::Left { method } => answer_unread(alloc, schema, self.interface, method),
+            Receipt::Left { method } => Ok(Answered {
+                transport: 0,
+                saw: None,
+                reply: unread_reply(alloc, schema, self.interface, method)?,
+            }),
             Receipt::Called { method, saw } => {
                 let callee = Callee::new(self.side, self.interface, method);
                 answer_call(alloc, &callee, &self.handler, saw)

@@ -1,8 +1,5 @@
 //! The statuses of refused requests, the codes of exceptions, and the bound on lengths, by their names (libutils, Errors.h; libbinder, Status.h).
 
-/// BAD_VALUE: an item isn't one that can be written.
-pub const BAD_VALUE: i32 = -22;
-
 /// UNKNOWN_TRANSACTION: there is no interface of the name, or no method of the code.
 pub const UNKNOWN_TRANSACTION: i32 = -74;
 

@@ -7,7 +7,6 @@ ghost use Rattle.parcel_words.specs.Written.{with_bytes};
 ghost use Rattle.stub_dispatch.specs.steps.Names.{dots};
 ghost use Rattle.stub_dispatch.specs.Tokens.{IsRest};
 ghost use Rattle.stub_dispatch.specs.steps.Begins.{Begins};
-ghost use Rattle.aidl_schema.specs.Same.{same_text};
 ghost use Rattle.wire_model.specs.Calls.{descriptor};
 ghost use Rattle.wire_model.specs.Receiver.{header_at, token_at};
 ghost use Rattle.wire_model.specs.Requests.{token};
@@ -76,7 +75,7 @@ pub fn begins_with(
         (token_at from.old.profile name.now from.old.bytes) from.old from.new) }
 {
     match header_from(alloc, from) {
-        Ok((header, text)) => Ok(header == HEADER && is_same(&text, name)),
+        Ok((header, text)) => Ok(header == HEADER && text.as_str() == name.as_str()),
         Err(ReadFault::OutOfMemory) => Err(OutOfMemory),
         Err(_) => Ok(false),
     }
@@ -93,13 +92,6 @@ fn header_from(alloc: Global, from: &mut CallReader<'_>) -> Result<(i32, Text), 
     let header = from.word()?;
     let name = from.text(alloc)?;
     Ok((header, name))
-}
-
-// Whether texts are the same.
-fn is_same(one: &Text, other: &Text) -> bool
-    ensures { result ≡ same_text one.now other.now }
-{
-    one.as_str() == other.as_str()
 }
 
 // The parts of the canonical name of an interface.

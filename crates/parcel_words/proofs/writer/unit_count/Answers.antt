@@ -7,7 +7,7 @@ use Rattle.std.proofs.lemmas.Str.{encodes-chars}
 use Rattle.aidl_base.specs.Words.{units}
 use Rattle.aidl_base.proofs.lemmas.Texts.{units_le}
 use Rattle.parcel_words.proofs.lemmas.Appends.{counts_next}
-use Rattle.parcel_words.proofs.writer.count_units.Goals as goal
+use Rattle.parcel_words.proofs.writer.unit_count.Goals as goal
 
 pub overflow_add-count : goal.overflow_add-count
 overflow_add-count c =

@@ -1,7 +1,7 @@
 use Rattle.std.proofs.Common.{◌≡◌, ◌+◌, length, drop}
 use Rattle.std.specs.Str.{chars}
 use Rattle.aidl_base.specs.Words.{units}
-use Rattle.parcel_words.proofs.writer.count_units.Given as goal
+use Rattle.parcel_words.proofs.writer.unit_count.Given as goal
 
 -- what is counted, and the units of the characters that are left, are all
 abbrev pub invariant-loop-c : goal.invariant-loop-c

@@ -2,7 +2,7 @@ use Rattle.std.proofs.Common.{◌≡◌, ◌≤◌, length, drop}
 use Rattle.std.specs.Str.{chars}
 use Rattle.aidl_base.specs.Words.{units, unit_bytes}
 use Rattle.parcel_words.specs.Written.{with_bytes}
-use Rattle.parcel_words.proofs.writer.WordWriter.characters.Given as goal
+use Rattle.parcel_words.proofs.writer.WordWriter.units.Given as goal
 
 -- with the characters that are left, all is written, and there is room for them
 abbrev pub invariant-loop-c : goal.invariant-loop-c

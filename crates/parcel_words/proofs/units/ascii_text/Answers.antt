@@ -1,7 +1,7 @@
 use Rattle.std.proofs.Common.{◌≡◌, refl, sym, subst, ap, ◌∙◌}
 use Rattle.std.specs.Str.{IsAscii, chars}
 use Rattle.std.proofs.lemmas.Str.{chars-IsAscii, IsUtf8-from_ascii}
-use Rattle.parcel_words.proofs.units.short_text.Goals as goal
+use Rattle.parcel_words.proofs.units.ascii_text.Goals as goal
 
 pub from_utf8_unchecked-text-requires : goal.from_utf8_unchecked-text-requires
 from_utf8_unchecked-text-requires c = IsUtf8-from_ascii c.is_ascii_put.new.bytes (c.if-not-is_ascii_put.ensures refl).1

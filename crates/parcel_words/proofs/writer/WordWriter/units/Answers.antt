@@ -7,7 +7,7 @@ use Rattle.std.proofs.lemmas.List.{length_push, at_drop_all}
 use Rattle.aidl_base.specs.Words.{units, unit_bytes}
 use Rattle.parcel_words.specs.Written.{with_bytes}
 use Rattle.parcel_words.proofs.lemmas.Appends.{unit_bytes_next, with_more, with_none}
-use Rattle.parcel_words.proofs.writer.WordWriter.characters.Goals as goal
+use Rattle.parcel_words.proofs.writer.WordWriter.units.Goals as goal
 
 pub character-requires : goal.character-requires
 character-requires c =
