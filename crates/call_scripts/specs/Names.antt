@@ -1,10 +1,8 @@
 -- Which method a text means, and which methods two schemas have under it (own). A text is in UTF-8.
-use Rattle.std.specs.Prelude.{ℕ, Bool, true, false, if◌then◌else◌, List, Option, Some, None, option_map}
-use Rattle.std.specs.Prelude.{option_and_then, slice_get}
+use Rattle.std.specs.Prelude.{ℕ, List, Option, option_map}
+use Rattle.std.specs.Prelude.{option_and_then}
 use Rattle.std.specs.List.{position}
 use Rattle.aidl_schema.specs.declared.schema.Decl.{Decl}
-use Rattle.aidl_schema.specs.declared.schema.Kind.{Kind}
-use Rattle.aidl_schema.specs.declared.schema.Kind.TheVariants.{Interface}
 use Rattle.aidl_schema.specs.declared.schema.Method.{Method}
 use Rattle.aidl_schema.specs.Find.{interface_named, methods_at}
 use Rattle.aidl_schema.specs.Same.{same_text}

@@ -35,27 +35,11 @@ pub fn args_from(
     ensures few { IfOk result (λ vs. sum_of_lengths args.now (views vs) ≤ 65536) }
 {
     match json {
-        None => counted_entries(alloc, schema, args, &[]),
-        Some(Json::Array(items)) => counted_entries(alloc, schema, args, items.as_slice()),
-        Some(_) => Err(refusal(alloc, RefusedName::WrongShape, Place::Args)),
-    }
-}
-
-fn counted_entries(
-    alloc: Global,
-    schema: &Schema,
-    args: &[Arg],
-    items: &[Json],
-) -> Result<Row<Value>, Fault<RefusedName>>
-    ensures gives { Gives views result
-        (meant.counted_entries schema.now.decls args.now (items_view items.now)) }
-    ensures fit { IfOk result (λ vs. ArgumentsFit schema.now.decls args.now (views vs)) }
-    ensures few { IfOk result (λ vs. sum_of_lengths args.now (views vs) ≤ 65536) }
-{
-    if is_count(items, args.len()) {
-        entries_from(alloc, schema, args, items)
-    } else {
-        Err(refusal(alloc, RefusedName::WrongShape, Place::Args))
+        None if args.is_empty() => entries_from(alloc, schema, args, &[]),
+        Some(Json::Array(items)) if is_count(items.as_slice(), args.len()) => {
+            entries_from(alloc, schema, args, items.as_slice())
+        }
+        _ => Err(refusal(alloc, RefusedName::WrongShape, Place::Args)),
     }
 }
 

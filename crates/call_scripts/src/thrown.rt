@@ -1,5 +1,6 @@
 //! Exceptions in an answer: the code, the message and the error number.
 ghost use Rattle.std.specs.Prelude.{◌≡◌, IfOk, IfSome, option_map};
+ghost use Rattle.serde_json.specs.Data.{array};
 ghost use Rattle.serde_json.specs.View.{view as json_view, items_view};
 ghost use Rattle.std.specs.Ordering.{int_eq};
 ghost use Rattle.wire_model.specs.Calls.{answer_of};
@@ -60,7 +61,6 @@ fn is_thrown(code: i128, error: i128) -> bool
     -8 <= code && code <= -1 && -2_147_483_648 <= error && error <= 2_147_483_647
 }
 
-#[tactic(auto, using(crate::proofs::Entered::same_thrown))]
 fn thrown_of(json: &Json) -> Option<Thrown<'_>>
     ensures thrown { option_map thrown_data result ≡ meant.thrown_of (json_view json.now) }
     ensures error { IfSome result (λ x. IsQuiet x.code x.error) }
@@ -71,91 +71,45 @@ fn thrown_of(json: &Json) -> Option<Thrown<'_>>
     }
 }
 
+// By the entries of an array.
+#[tactic(auto, using(crate::proofs::Entered::by_two, crate::proofs::Entered::by_three, crate::proofs::Entered::alone, crate::proofs::Entered::more))]
 fn thrown_in(items: &[Json]) -> Option<Thrown<'_>>
-    ensures thrown { option_map thrown_data result ≡ steps.thrown_in (items_view items.now) }
+    ensures thrown { option_map thrown_data result
+        ≡ meant.thrown_of (array (items_view items.now)) }
     ensures error { IfSome result (λ x. IsQuiet x.code x.error) }
 {
     match items {
         [] => None,
-        [code, others @ ..] => thrown_after(whole(code), others),
-    }
-}
-
-fn thrown_after(code: Option<i128>, items: &[Json]) -> Option<Thrown<'_>>
-    ensures thrown { option_map thrown_data result
-        ≡ steps.thrown_after code (items_view items.now) }
-    ensures error { IfSome result (λ x. IsQuiet x.code x.error) }
-{
-    match items {
-        [] => None,
-        [message, others @ ..] => thrown_with(code, message, others),
-    }
-}
-
-fn thrown_with<'a>(code: Option<i128>, message: &'a Json, rest: &[Json]) -> Option<Thrown<'a>>
-    ensures thrown { option_map thrown_data result
-        ≡ steps.thrown_with code (json_view message.entry.now) (items_view rest.now) }
-    ensures error { IfSome result (λ x. IsQuiet x.code x.error) }
-{
-    match message {
-        Json::String(text) => thrown_by(code, text.as_str(), rest),
+        [_] => None,
+        [code, message] => thrown_by(code, message, None),
+        [code, message, error] => thrown_by(code, message, Some(error)),
         _ => None,
     }
 }
 
-fn thrown_by<'a>(code: Option<i128>, message: &'a str, rest: &[Json]) -> Option<Thrown<'a>>
-    ensures thrown { option_map thrown_data result
-        ≡ steps.thrown_by code message.entry.now (items_view rest.now) }
+// A code, a message and, exactly beside a service's own code, an error number.
+#[tactic(auto, unfolding(crate::specs::steps::Exceptions::thrown_by))]
+fn thrown_by<'a>(code: &Json, message: &'a Json, error: Option<&Json>) -> Option<Thrown<'a>>
+    ensures thrown { option_map thrown_data result ≡ steps.thrown_by (json_view code.now)
+        (json_view message.entry.now) (option_map (λ j. json_view j.now) error.entry) }
     ensures error { IfSome result (λ x. IsQuiet x.code x.error) }
 {
-    match rest {
-        [] => by_two(code?, message),
-        [error, others @ ..] => thrown_by_error(code, message, whole(error), others),
-    }
-}
-
-fn thrown_by_error<'a>(
-    code: Option<i128>,
-    message: &'a str,
-    error: Option<i128>,
-    rest: &[Json],
-) -> Option<Thrown<'a>>
-    ensures thrown { option_map thrown_data result
-        ≡ steps.thrown_by_error code message.entry.now error (items_view rest.now) }
-    ensures error { IfSome result (λ x. IsQuiet x.code x.error) }
-{
-    match rest {
-        [] => by_three(code?, message, error?),
-        _ => None,
-    }
-}
-
-fn by_two(code: i128, message: &str) -> Option<Thrown<'_>>
-    ensures thrown { option_map thrown_data result ≡ steps.thrown_by_two code message.now }
-    ensures error { IfSome result (λ x. IsQuiet x.code x.error) }
-{
-    if is_own(code) {
+    let Json::String(text) = message else {
+        return None;
+    };
+    let code = whole(code)?;
+    if is_own(code) != error.is_some() {
         return None;
     }
+    let error = match error {
+        Some(error) => whole(error)?,
+        None => 0,
+    };
     Some(Thrown {
         code,
-        message,
-        error: 0,
+        message: text.as_str(),
+        error,
     })
-}
-
-fn by_three(code: i128, message: &str, error: i128) -> Option<Thrown<'_>>
-    ensures thrown { option_map thrown_data result ≡ steps.thrown_by_three code message.now error }
-    ensures error { IfSome result (λ x. IsQuiet x.code x.error) }
-{
-    if is_own(code) {
-        return Some(Thrown {
-            code,
-            message,
-            error,
-        });
-    }
-    None
 }
 
 // Whether a code is that of a service's own exception.

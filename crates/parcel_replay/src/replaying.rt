@@ -44,26 +44,9 @@ pub fn replay_line(
     ensures lawful { IfOk result (λ r. IsLawfulRequest server.now.decls interface
         (traced line.now)) }
 {
-    match request_text(line) {
-        Some(text) => replay_text(alloc, server, plans, interface, text),
-        None => Ok(Replayed::Other),
-    }
-}
-
-// The same of what stands behind `request `.
-fn replay_text(
-    alloc: Global,
-    server: &Schema,
-    plans: &Plans,
-    interface: u32,
-    text: &[u8],
-) -> Result<Replayed, OutOfMemory>
-    requires { ArePlansOf plans.now server.now.decls }
-    ensures replays { IfOk result (Replays server.now.decls interface
-        (traced_by (request_of text.now))) }
-    ensures lawful { IfOk result (λ r. IsLawfulRequest server.now.decls interface
-        (traced_by (request_of text.now))) }
-{
+    let Some(text) = request_text(line) else {
+        return Ok(Replayed::Other);
+    };
     match request_of(text) {
         Some((code, delivered)) => {
             let side = Side::new(server, plans);

@@ -20,38 +20,14 @@ abbrev pub IsException : Answer → Type 0
 IsException (Returned result outs) = ⊥
 IsException (Exception code message error) = ExceptionFits code message error
 
--- with two entries the code isn't -8
-abbrev pub thrown_by_two : ℤ → List ℕ → Option Thrown
-thrown_by_two code message = if int_eq code service_specific then None
+-- an error number stands exactly beside the code -8
+abbrev pub thrown_with : ℤ → List ℕ → Option json.Data → Option Thrown
+thrown_with code message None = if int_eq code service_specific then None
     else Some (record { code = code; message = chars message; error = pos 0 })
+thrown_with code message (Some error) = option_and_then (λ e. if int_eq code service_specific
+    then Some (record { code = code; message = chars message; error = e }) else None) (whole error)
 
--- with three it is
-abbrev pub thrown_by_three : ℤ → List ℕ → ℤ → Option Thrown
-thrown_by_three code message error = if int_eq code service_specific
-    then Some (record { code = code; message = chars message; error = error }) else None
-
--- a third entry, and no more
-abbrev pub thrown_by_error : Option ℤ → List ℕ → Option ℤ → json.Items → Option Thrown
-thrown_by_error code message error json.no_items =
-    option_and_then (λ c. option_and_then (λ e. thrown_by_three c message e) error) code
-thrown_by_error code message error (json.item other rest) = None
-
--- what follows the code and the message
-abbrev pub thrown_by : Option ℤ → List ℕ → json.Items → Option Thrown
-thrown_by code message json.no_items = option_and_then (λ c. thrown_by_two c message) code
-thrown_by code message (json.item error rest) = thrown_by_error code message (whole error) rest
-
--- the message is a string
-abbrev pub thrown_with : Option ℤ → json.Data → json.Items → Option Thrown
-thrown_with code (json.string message) rest = thrown_by code message rest
-thrown_with code _ rest = None
-
--- what follows the code
-abbrev pub thrown_after : Option ℤ → json.Items → Option Thrown
-thrown_after code json.no_items = None
-thrown_after code (json.item message rest) = thrown_with code message rest
-
--- the entries of an array, one after the other
-abbrev pub thrown_in : json.Items → Option Thrown
-thrown_in json.no_items = None
-thrown_in (json.item code rest) = thrown_after (whole code) rest
+-- by the entries of an array of two or three
+abbrev pub thrown_by : json.Data → json.Data → Option json.Data → Option Thrown
+thrown_by code (json.string message) error = option_and_then (λ c. thrown_with c message error) (whole code)
+thrown_by code _ error = None
