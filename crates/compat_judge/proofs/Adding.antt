@@ -1,16 +1,9 @@
 -- What steps add to the findings one after the other.
-use Rattle.std.proofs.Common.{◌≡◌, ℕ, List, [], ◌∷◌, ◌++◌, false, refl, sym, ap, ◌∙◌, append_assoc}
+use Rattle.std.proofs.Common.{◌≡◌, ℕ, List, [], ◌∷◌, ◌++◌, refl, sym, ap, ◌∙◌, append_assoc}
 use Rattle.std.proofs.lemmas.List.{append-nil}
 use Rattle.aidl_schema.specs.Broken.{Break, Place, of_rule}
 use Rattle.compat_judge.specs.declared.findings.Findings.{Findings}
 use Rattle.compat_judge.specs.steps.Adds.{Adds, found_so_far}
-
--- findings that aren't whole say nothing of what was added
-pub adds_lost : {a b : Findings} {p : List Break} → b.is_whole ≡ false → Adds a b p
-adds_lost lost = record { if_whole = λ whole. cc }
-
-pub adds_nothing : {a : Findings} → Adds a a []
-adds_nothing = record { if_whole = λ whole. (whole, sym (append-nil _)) }
 
 pub adds_as : {a b : Findings} {p q : List Break} → p ≡ q → Adds a b p → Adds a b q
 adds_as {a} same adds = record { if_whole = λ whole. ((adds.if_whole whole).0, (adds.if_whole whole).1 ∙ ap (λ z. found_so_far a ++ z) same) }

@@ -1,7 +1,6 @@
 -- What one turn of a loop over members adds.
 use Rattle.std.proofs.Common.{◌≡◌, ℕ, zero, suc, ◌+◌, ◌<◌, min, Bool, true, List, [], ◌∷◌, ◌++◌, map, length, take, get_or, Option, Some, None, refl, sym, ap, ◌∙◌, subst, arith, is_some}
 use Rattle.std.specs.List.{flat_map, zip, enumerate_from, position_from}
-use Rattle.std.proofs.lemmas.List.{length-map}
 use Rattle.std.specs.Borrow.{Bor}
 use Rattle.std.specs.Fmt.{decimal}
 use Rattle.std.specs.Option.{option_copied}
@@ -10,12 +9,15 @@ use Rattle.std.proofs.lemmas.Iterator.Adapters.{position_from-zero}
 use Rattle.aidl_base.specs.declared.name.Ident.{Ident}
 use Rattle.aidl_schema.specs.declared.schema.Arg.{Arg}
 use Rattle.aidl_schema.specs.declared.schema.Decl.{Decl}
+use Rattle.aidl_schema.specs.declared.schema.Method.{Method}
+use Rattle.aidl_schema.specs.Names.{methods_of}
 use Rattle.aidl_schema.specs.Broken.{argument, is_there_and, member, of_rule, place_if, whole}
 use Rattle.aidl_schema.specs.Same.{same_text}
 use Rattle.name_tables.specs.Places.{has_name, place_in}
 use Rattle.compat_judge.specs.declared.findings.Findings.{Findings}
 use Rattle.compat_judge.specs.steps.Adds.{Adds}
-use Rattle.compat_judge.specs.steps.Steps.{break_if}
+use Rattle.compat_judge.specs.declared.sides.Pair.{Pair}
+use Rattle.compat_judge.specs.steps.Steps.{AreBeside, all_named, break_if}
 use Rattle.compat_judge.proofs.Adding.{adds_as}
 use Rattle.compat_judge.proofs.Found.{same_text_sym}
 use Rattle.aidl_base.proofs.lemmas.Lists.{take_further}
@@ -75,8 +77,11 @@ numbered_length k (x ∷ xs) = ap suc (numbered_length (k + 1) xs)
 pub beside_at : {X Y Z : Type 0} (f : Y → Z) (g : X → Z) (ys : List Y) (xs : List X) (i : ℕ) (y : Y) (x : X) → map f ys ≡ map g xs → i < length xs → y ≡ get_or ys i y → x ≡ get_or xs i x → f y ≡ g x
 beside_at f g ys xs i y x e lt is_y is_x = get_mapped f ys i y is_y ∙ ap (λ zs. get_or zs i (f y)) e ∙ get_mapped_any g xs i x (f y) lt is_x
 
-pub beside_length : {X Y Z : Type 0} (f : Y → Z) (g : X → Z) (ys : List Y) (xs : List X) → map f ys ≡ map g xs → length ys ≡ length xs
-beside_length f g ys xs e = sym (length-map ys f) ∙ ap length e ∙ length-map xs g
+-- the methods of a pair
+pub are_beside : (p : Pair) (olds news : List Method) (afters : List (Option (Bor Method))) → olds ≡ methods_of p.before.now.kind → news ≡ methods_of p.after.now.kind
+    → map option_copied afters ≡ all_named (λ m. m.name.0) olds news → AreBeside afters p
+are_beside p olds news afters are be e =
+    e ∙ ap (λ ms. all_named (λ (m : Method). m.name.0) ms news) are ∙ ap (λ ws. all_named (λ (m : Method). m.name.0) (methods_of p.before.now.kind) ws) be
 
 pub there_is : {X : Type 0} (o : Option X) → is_there_and (λ y. true) o ≡ is_some o
 there_is None = refl

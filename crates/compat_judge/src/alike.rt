@@ -1,8 +1,8 @@
-//! Sameness of results, marks and directions, between two schemas.
-ghost use Rattle.std.specs.Prelude.{◌≡◌, ◌==◌};
+//! Sameness of results and marks, between two schemas.
+ghost use Rattle.std.specs.Prelude.{◌≡◌};
 ghost use Rattle.aidl_schema.specs.Broken as broken;
 
-use aidl_schema::{AidlType, Direction, Schema, same_flag, same_type};
+use aidl_schema::{AidlType, Schema, same_flag, same_type};
 
 /// Whether both are void or the same type.
 pub fn same_result(
@@ -35,11 +35,4 @@ pub fn same_result_marks(before: Option<AidlType>, after: Option<AidlType>) -> b
         (Some(before), Some(after)) => same_marks(before, after),
         _ => true,
     }
-}
-
-/// Whether values go the same way.
-pub fn same_way(before: Direction, after: Direction) -> bool
-    ensures { result ≡ (broken.way_code before == broken.way_code after) }
-{
-    before == after
 }

@@ -47,19 +47,7 @@ fn same_consts(olds: &[Const], news: &[Const]) -> bool
     true
 }
 
-// What a base has as its default; a parcelable or a union has no constant.
-fn zero_of(form: &Form<'_>) -> Option<Const>
-    ensures { result ≡ broken.zero_of (seen form.now) }
-{
-    match form {
-        Form::Truth => Some(Const::Truth(false)),
-        Form::Text => Some(Const::Text(Text::empty())),
-        Form::Byte | Form::Char | Form::Int | Form::Long => Some(Const::Number(0)),
-        _ => None,
-    }
-}
-
-// A type's default, where None is null.
+// A type's default, where None is null; and of a parcelable or a union, which has no constant.
 fn zero_in(alloc: Global, schema: &Schema, ty: AidlType) -> Option<Const>
     ensures { result ≡ broken.zero_in schema.now.decls ty }
 {
@@ -67,7 +55,12 @@ fn zero_in(alloc: Global, schema: &Schema, ty: AidlType) -> Option<Const>
         return None;
     }
     match ty.shape {
-        Shape::One => zero_of(&form_in(schema, ty.base)),
+        Shape::One => match form_in(schema, ty.base) {
+            Form::Truth => Some(Const::Truth(false)),
+            Form::Text => Some(Const::Text(Text::empty())),
+            Form::Byte | Form::Char | Form::Int | Form::Long => Some(Const::Number(0)),
+            _ => None,
+        },
         _ => Some(Const::Members(Row::new(alloc))),
     }
 }
@@ -130,18 +123,12 @@ fn is_enum_without_zero(schema: &Schema, base: Base) -> bool
 {
     match base {
         Base::Named(number) => match schema.decls.as_slice().get(number as usize) {
-            Some(decl) => lacks_zero(&decl.kind),
+            Some(decl) => match &decl.kind {
+                Kind::Enum(_, enumerators) => !has_zero(enumerators.as_slice()),
+                _ => false,
+            },
             None => false,
         },
-        _ => false,
-    }
-}
-
-fn lacks_zero(kind: &Kind) -> bool
-    ensures { result ≡ ((broken.kind_code kind.now == 3) && not (is_enumerator kind.now (pos 0))) }
-{
-    match kind {
-        Kind::Enum(_, enumerators) => !has_zero(enumerators.as_slice()),
         _ => false,
     }
 }

@@ -4,9 +4,9 @@ ghost use Rattle.std.specs.Option.{option_copied};
 ghost use Rattle.aidl_schema.specs.Broken.{is_there_and};
 ghost use Rattle.compat_judge.specs.steps.Tests as tests;
 
-use crate::alike::{same_marks, same_result, same_result_marks, same_way};
+use crate::alike::{same_marks, same_result, same_result_marks};
 use crate::consts::{has_composite_default, same_defaults};
-use crate::fields::{parcelable_fields, same_backing, union_fields};
+use crate::fields::{backing_code, parcelable_fields, union_fields};
 use aidl_schema::{
     Arg, Decl, Field, Kind, Method, Schema, fields_of, same_flag, same_text, same_type,
 };
@@ -57,22 +57,18 @@ pub fn decl_breaks(test: DeclTest, before: &Decl, after: &Decl) -> bool
     match test {
         DeclTest::FewerFields => parcelable_fields(&after.kind).len()
             < parcelable_fields(&before.kind).len(),
-        DeclTest::Fixed => is_fixed_broken(before, after),
+        // A parcelable or union has `@FixedSize` in one schema alone; or in both, and new has more fields.
+        DeclTest::Fixed => {
+            matches!(before.kind, Kind::Parcelable(_) | Kind::Union(_))
+                && (!same_flag(before.fixed, after.fixed)
+                    || ((before.fixed && after.fixed)
+                        && fields_of(&before.kind).len() < fields_of(&after.kind).len()))
+        }
         DeclTest::FewerAlternatives => union_fields(&after.kind).len()
             < union_fields(&before.kind).len(),
-        DeclTest::Backings => !same_backing(&before.kind, &after.kind),
+        DeclTest::Backings => backing_code(&before.kind) != backing_code(&after.kind),
         DeclTest::Stability => !same_flag(before.vintf, after.vintf),
     }
-}
-
-// Whether a parcelable or union has `@FixedSize` in one schema alone; or in both, and new has more fields.
-fn is_fixed_broken(before: &Decl, after: &Decl) -> bool
-    ensures { result ≡ tests.decl_breaks DeclTest.Fixed before.now after.now }
-{
-    matches!(before.kind, Kind::Parcelable(_) | Kind::Union(_))
-        && (!same_flag(before.fixed, after.fixed)
-            || ((before.fixed && after.fixed)
-                && fields_of(&before.kind).len() < fields_of(&after.kind).len()))
 }
 
 /// Whether there is a method beside this one, and they differ in what is asked.
@@ -110,7 +106,7 @@ pub fn argument_breaks(
 {
     match test {
         ArgumentTest::Types => !same_type(old, before.ty, new, after.ty),
-        ArgumentTest::Ways => !same_way(before.way, after.way),
+        ArgumentTest::Ways => before.way != after.way,
         ArgumentTest::Marks => !same_marks(before.ty, after.ty),
     }
 }
@@ -129,20 +125,15 @@ pub fn field_breaks(
     match test {
         FieldTest::Names => !same_text(&before.name.0, &after.name.0),
         FieldTest::Types => !same_type(old, before.ty, new, after.ty),
-        FieldTest::Defaults => default_breaks(alloc, old, before, new, after),
+        // The types are the same and the defaults differ, where neither is a record or an alternative.
+        FieldTest::Defaults => {
+            same_type(old, before.ty, new, after.ty)
+                && (!(has_composite_default(old, before.ty) || has_composite_default(new, after.ty))
+                    && !same_defaults(alloc, old, before, new, after))
+        }
         FieldTest::Alternatives => {
             !same_text(&before.name.0, &after.name.0) || !same_type(old, before.ty, new, after.ty)
         }
         FieldTest::Marks => !same_marks(before.ty, after.ty),
     }
-}
-
-// Whether the types are the same and the defaults differ, where neither is a record or an alternative.
-fn default_breaks(alloc: Global, old: &Schema, before: &Field, new: &Schema, after: &Field) -> bool
-    ensures { result ≡ tests.field_breaks FieldTest.Defaults
-        old.now.decls new.now.decls before.now after.now }
-{
-    same_type(old, before.ty, new, after.ty)
-        && (!(has_composite_default(old, before.ty) || has_composite_default(new, after.ty))
-            && !same_defaults(alloc, old, before, new, after))
 }

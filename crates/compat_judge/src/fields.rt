@@ -1,5 +1,5 @@
-//! The fields of a declaration by its kind, and sameness of the backings of enums.
-ghost use Rattle.std.specs.Prelude.{◌≡◌, ◌==◌, take};
+//! The fields of a declaration by its kind, and the backings of enums.
+ghost use Rattle.std.specs.Prelude.{◌≡◌};
 ghost use Rattle.aidl_schema.specs.Broken as broken;
 ghost use Rattle.compat_judge.specs.steps.Tests as tests;
 
@@ -32,17 +32,8 @@ fn fields_with_default(kind: &Kind) -> &[Field]
 {
     match kind {
         Kind::Parcelable(fields) => fields.as_slice(),
-        Kind::Union(fields) => first_of(fields.as_slice()),
+        Kind::Union(fields) => &fields.as_slice()[..fields.len().min(1)],
         _ => &[],
-    }
-}
-
-fn first_of(fields: &[Field]) -> &[Field]
-    ensures { result.now ≡ take 1 fields.now }
-{
-    match fields {
-        [] => &[],
-        _ => &fields[..1],
     }
 }
 
@@ -58,15 +49,8 @@ pub fn fields_asked(test: FieldTest, kind: &Kind) -> &[Field]
     }
 }
 
-/// Whether the backings of two enums are the same.
-pub fn same_backing(before: &Kind, after: &Kind) -> bool
-    ensures { result ≡ (broken.backing_code before.now == broken.backing_code after.now) }
-{
-    backing_code(before) == backing_code(after)
-}
-
-// A number for the backing of an enum.
-fn backing_code(kind: &Kind) -> u8
+/// A number for the backing of an enum.
+pub fn backing_code(kind: &Kind) -> u8
     ensures { result ≡ broken.backing_code kind.now }
 {
     match kind {

@@ -1,5 +1,5 @@
 //! Methods, enumerators and constants by their names: those of old that new lacks or changed.
-ghost use Rattle.std.specs.Prelude.{◌≡◌, IfOk};
+ghost use Rattle.std.specs.Prelude.{◌≡◌};
 ghost use Rattle.std.specs.Option.{option_copied};
 ghost use Rattle.std.specs.Ordering.{int_eq};
 ghost use Rattle.aidl_schema.specs.Broken.{C3, C17, C18, is_there_and};
@@ -12,9 +12,7 @@ use crate::consts::same_const;
 use crate::findings::Findings;
 use crate::lookup::beside;
 use crate::sides::Pair;
-use aidl_base::OutOfMemory;
 use aidl_schema::{Constant, Enumerator, Kind, Method, methods_of, same_base_code};
-use std::alloc::Global;
 
 /// The enumerators of an enum; none of what is no enum.
 pub fn enumerators_of(kind: &Kind) -> &[Enumerator]
@@ -24,18 +22,6 @@ pub fn enumerators_of(kind: &Kind) -> &[Enumerator]
         Kind::Enum(_, enumerators) => enumerators.as_slice(),
         _ => &[],
     }
-}
-
-/// For each method of old the one of its name in new, if there is one.
-pub fn methods_beside<'a>(
-    alloc: Global,
-    pair: &Pair<'a>,
-) -> Result<Vec<Option<&'a Method>>, OutOfMemory>
-    ensures { IfOk result (λ afters. AreBeside afters.items pair.now) }
-{
-    let olds = methods_of(&pair.before.kind);
-    let news = methods_of(&pair.after.kind);
-    beside(alloc, olds, news)
 }
 
 /// Methods of old that aren't in new.

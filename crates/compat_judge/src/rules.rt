@@ -6,10 +6,11 @@ ghost use Rattle.compat_judge.specs.steps.Steps.{AreBeside, breaks_in};
 
 use crate::differences::{ArgumentTest, DeclTest, FieldTest, MethodTest};
 use crate::findings::Findings;
-use crate::members::{at_lost_constants, at_lost_enumerators, at_lost_methods, methods_beside};
+use crate::lookup::beside;
+use crate::members::{at_lost_constants, at_lost_enumerators, at_lost_methods};
 use crate::shapes::{at_additions, at_arguments, at_decl, at_fields, at_methods};
 use crate::sides::Pair;
-use aidl_schema::{Method, same_kind};
+use aidl_schema::{Method, methods_of, same_kind};
 
 /// C2 to C19: what a declaration of old and that of its name in new break.
 pub fn broken_by(pair: &Pair<'_>, found: &mut Findings)
@@ -28,7 +29,9 @@ pub fn broken_by(pair: &Pair<'_>, found: &mut Findings)
 fn broken_inside(pair: &Pair<'_>, found: &mut Findings)
     ensures { Adds found.old found.new (breaks_in broken.rules pair.now) }
 {
-    let Ok(afters) = methods_beside(found.alloc, pair) else {
+    let olds = methods_of(&pair.before.kind);
+    let news = methods_of(&pair.after.kind);
+    let Ok(afters) = beside(found.alloc, olds, news) else {
         return found.lose();
     };
     let afters = afters.as_slice();

@@ -127,10 +127,6 @@ module _ (A : List Decl) (i m : ℕ) (v : Method) (B : List Decl) (j n : ℕ) (w
       let each : EachFits B (out_types B j n) none = subst (λ ts. EachFits B ts none) (sym outs_b) tt in
       subst (λ q. IsAnswerAt B q answer) (sym found) (two_way_there, (subst (λ t. ResultFits B t r) (sym result_b) fits, each))
 
--- what is and isn't plain
-result_plain : (t : AidlType) → is_plain_result (Some t) ≡ true → IsPlain t
-result_plain t h = plain_is t h
-
 low_fits : (B : List Decl) (t : Option AidlType) → is_plain_result t ≡ true → ResultFits B t (low_result t)
 low_fits B None h = tt
 low_fits B (Some t) h =

@@ -2,12 +2,9 @@
 //!
 //! `Sides` (what is read of a request or a reply, and what it is projected to by the view of one version on the other), `Candidates`
 //! (calls that may show a broken rule, and when one counts), `Places` (the methods and fields that a broken rule names), `Reaching`
-//! (the methods that carry a declaration), `Alike` (that one of them shows as much as another) and `Rows` (rule by rule the condition and the candidates). `docs/WITNESS.md` says it in words.
+//! (the methods that carry a declaration), `Alike` (that one of them shows as much as another), `Rows` (rule by rule the condition and the candidates) and `RowsByRule` (the table of them). `docs/WITNESS.md` says it in words.
 #![tactic(auto)]
 
 mod laws;
 
-pub use laws::{
-    law_alike, law_c2, law_c3, law_c4, law_c5, law_c6, law_c6_at, law_c7, law_c8, law_c10, law_c11,
-    law_c15, law_c16,
-};
+pub use laws::{law_alike, law_shown};

@@ -13,16 +13,15 @@ use Rattle.wire_model.specs.Receiver.{Received}
 unfoldable use Rattle.wire_model.specs.Receiver.{stub}
 use Rattle.wire_model.specs.Status.{unknown_transaction}
 use Rattle.compat_witness.specs.Alike.{IsShort}
-use Rattle.compat_witness.specs.Candidates.{Candidate, Values, arguments, answered, ValuesFit, IsAnswerAt, IsAnswerOf, answer_bytes, at_method, bytes_of, client_of, server_of, counterpart, read_side, projected_side}
+use Rattle.compat_witness.specs.Candidates.{Candidate, Values, arguments, answered, ValuesFit, IsAnswerAt, IsAnswerOf, answer_bytes, at_method, bytes_of, client_of, fit_between, server_of, counterpart, read_side, projected_side}
 use Rattle.compat_witness.specs.Sides.{Side, transport, no_reply, read_request, read_reply, received_by, projected_request, projected_reply, side_of}
 unfoldable use Rattle.compat_witness.specs.Sides.{projected_call}
 use Rattle.witness_calls.specs.declared.showing.Showing.{Showing}
 use Rattle.witness_calls.specs.declared.showing.Tried.{Tried}
 use Rattle.witness_calls.specs.declared.reading.Reading.{Reading}
-use Rattle.witness_calls.specs.Comparing.{NamesMethod}
 use Rattle.witness_calls.specs.Seen.{reading_seen}
 use Rattle.witness_calls.specs.Showing.{IsTried, ShowsIt, Tries}
-use Rattle.witness_calls.specs.Counted.{AreCounted, AreWeighed, NoneCount, IsCounted, IsWeighed, IsWeighedBetween, IsWeighedBy}
+use Rattle.witness_calls.specs.Counted.{AreCounted, AreWeighed, NoneCount, IsCounted, IsWeighedBetween, IsWeighedBy}
 use Rattle.witness_calls.specs.steps.Projected.{called_at, callee_at}
 use Rattle.witness_calls.specs.steps.Shown.{IsShownBy, ShowsBy}
 use Rattle.witness_calls.proofs.NoCode.{no_code}
@@ -55,8 +54,14 @@ shown_tried old new call s t w h = record { tries = by t.showing h.shows; short 
     })
 
 -- the same of what is weighed
-pub weighed_tried : (old new : List Decl) (call : Candidate) (o : Option Showing) (s : Showing) (t : Tried) → IsWeighed old new call o → o ≡ Some s → IsShownBy s t → IsTried old new call t
-weighed_tried old new call o s t w is h = shown_tried old new call s t (subst (λ z. IsWeighed old new call z) is w) h
+at_ends : (A B C D : List Decl) (i m : ℕ) (v : Values) (o p : Option Showing) → A ≡ C → B ≡ D → o ≡ p → IsWeighedBetween A B i m v o → IsWeighedBetween C D i m v p
+at_ends A B C D i m v o p a b is w =
+    subst (λ z. IsWeighedBetween C D i m v z) is (subst (λ z. IsWeighedBetween C z i m v o) b (subst (λ z. IsWeighedBetween z B i m v o) a w))
+
+pub weighed_tried : (old new : List Decl) (call : Candidate) (A B : List Decl) → A ≡ client_of call.back old new → B ≡ server_of call.back old new
+    → (o : Option Showing) (s : Showing) (t : Tried) → IsWeighedBetween A B call.interface call.method call.values o → o ≡ Some s → IsShownBy s t → IsTried old new call t
+weighed_tried old new call A B a b o s t w is h =
+    shown_tried old new call s t (at_ends A B (client_of call.back old new) (server_of call.back old new) call.interface call.method call.values o (Some s) a b is w) h
 
 -- two sides that are the same, and two that aren't
 pub same_shown : (s : Showing) (b : Bool) → (IsTrue b ↔ (reading_seen s.read ≡ reading_seen s.projected)) → b ≡ true → IsShownBy s (record { showing = None; short = true })
@@ -66,11 +71,15 @@ pub other_shown : (s : Showing) (b : Bool) → (IsTrue b ↔ (reading_seen s.rea
 other_shown s b d e = record { shows = (refl, fails b d e); short = refl }
 
 -- what doesn't count shows nothing
-pub none_tried : (old new : List Decl) (call : Candidate) (o : Option Showing) (fits : Bool) → IsWeighed old new call o → o ≡ None → (fits ≡ false → ValuesFit old new call → ⊥)
-    → IsTried old new call (record { showing = None; short = not fits })
-none_tried old new call o fits w is misfit =
-    let n : IsWeighed old new call None = subst (λ z. IsWeighed old new call z) is w in
-    record { tries = λ s. n.nothing s.counts.fits s.counts.small; short = λ e h. absurd (misfit (back_way fits e) h) }
+pub none_tried : (old new : List Decl) (call : Candidate) (A B : List Decl) → A ≡ client_of call.back old new → B ≡ server_of call.back old new
+    → (o : Option Showing) (fits : Bool) → IsWeighedBetween A B call.interface call.method call.values o → o ≡ None
+    → (fits ≡ false → (D : List Decl) → fit_between A D call.interface call.method call.values → ⊥) → IsTried old new call (record { showing = None; short = not fits })
+none_tried old new call A B a b o fits w is misfit =
+    let n = at_ends A B (client_of call.back old new) (server_of call.back old new) call.interface call.method call.values o None a b is w in
+    record {
+      tries = λ s. n.nothing s.counts.fits s.counts.small;
+      short = λ e h. absurd (misfit (back_way fits e) (server_of call.back old new) (subst (λ z. fit_between z (server_of call.back old new) call.interface call.method call.values) (sym a) h));
+    }
 
 -- Without a method
 
@@ -184,5 +193,7 @@ nameless old new back i m (arguments args) h = λ s. s.differs (no_method (clien
 nameless old new back i m (answered answer) h = λ s.
     subst (λ o. IsAnswerAt (server_of back old new) o answer) (no_counterpart (client_of back old new) i m (server_of back old new) h) s.counts.fits
 
-pub nothing_named : (old new : List Decl) (call : Candidate) → (NamesMethod old new call → ⊥) → IsTried old new call (record { showing = None; short = false })
-nothing_named old new call h = record { tries = nameless old new call.back call.interface call.method call.values h; short = λ e. cc }
+pub nothing_named : (old new : List Decl) (call : Candidate) (A : List Decl) → A ≡ client_of call.back old new → (call.method < length (methods_at A call.interface) → ⊥)
+    → IsTried old new call (record { showing = None; short = false })
+nothing_named old new call A a h =
+    record { tries = nameless old new call.back call.interface call.method call.values (subst (λ z. call.method < length (methods_at z call.interface) → ⊥) a h); short = λ e. cc }

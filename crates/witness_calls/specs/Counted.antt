@@ -1,7 +1,7 @@
 -- What counts of a call between two versions: its bytes, with its two sides (own).
 use Rattle.std.specs.Prelude.{◌≡◌, ℕ, ◌≤◌, List, length, Option, Some, None}
 use Rattle.aidl_schema.specs.declared.schema.Decl.{Decl}
-use Rattle.compat_witness.specs.Candidates.{Candidate, Values, client_of, server_of, fit_between, bytes_between}
+use Rattle.compat_witness.specs.Candidates.{Values, fit_between, bytes_between}
 use Rattle.compat_witness.specs.Candidates.{read_between, projected_between}
 use Rattle.compat_witness.specs.Sides.{Side}
 use Rattle.witness_calls.specs.declared.showing.Showing.{Showing}
@@ -37,8 +37,3 @@ IsWeighedBy Fits bytes read projected (Some s) = AreWeighed Fits bytes read proj
 abbrev pub IsWeighedBetween : List Decl → List Decl → ℕ → ℕ → Values → Option Showing → Type 0
 IsWeighedBetween A B i m values o = IsWeighedBy (fit_between A B i m values) (bytes_between A B i m values)
     (read_between A B i m values) (projected_between A B i m values) o
-
--- the same of a call
-abbrev pub IsWeighed : List Decl → List Decl → Candidate → Option Showing → Type 0
-IsWeighed old new c o =
-    IsWeighedBetween (client_of c.back old new) (server_of c.back old new) c.interface c.method c.values o

@@ -19,5 +19,4 @@ mod weighing;
 pub use call::{Call, Values};
 pub use reading::Reading;
 pub use showing::{Showing, Tried, try_call};
-pub use stub_dispatch::is_out;
 pub use version::{Version, declared};

@@ -1,5 +1,7 @@
 //! What a call shows.
-ghost use Rattle.std.specs.Prelude.{IfOk};
+ghost use Rattle.std.specs.Prelude.{◌≡◌, IfOk, List};
+ghost use Rattle.aidl_schema.specs.declared.schema.Decl.{Decl};
+ghost use Rattle.compat_witness.specs.Candidates.{client_of, server_of};
 ghost use Rattle.witness_calls.specs.Showing.{IsTried};
 ghost use Rattle.witness_calls.specs.Seen.{call_seen};
 ghost use Rattle.witness_calls.specs.steps.Shown.{IsShownBy};
@@ -8,7 +10,7 @@ use crate::call::Call;
 use crate::reading::Reading;
 use crate::same::same_reading;
 use crate::version::Version;
-use crate::weighing::{may_fit, names_method, weigh};
+use crate::weighing::{may_fit, weigh};
 use aidl_base::{OutOfMemory, Row};
 use std::alloc::Global;
 
@@ -31,7 +33,6 @@ pub struct Tried {
 
 /// What a call shows, where it counts and its two sides differ; else None. It counts where its values fit and its bytes are at
 /// most 1,048,576. All reading is strict. `OutOfMemory` is the one refusal (own).
-#[tactic(auto, using(crate::proofs::Shown::weighed_tried, crate::proofs::Shown::none_tried))]
 pub fn try_call(
     alloc: Global,
     old: &Version<'_>,
@@ -40,17 +41,36 @@ pub fn try_call(
 ) -> Result<Tried, OutOfMemory>
     ensures { IfOk result (λ tried. IsTried old.now new.now (call_seen call.now) tried) }
 {
-    if !names_method(old, new, call) {
+    if call.back {
+        try_between(alloc, new, old, call)
+    } else {
+        try_between(alloc, old, new, call)
+    }
+}
+
+// The same between a client and a server.
+#[tactic(auto, using(crate::proofs::Shown::weighed_tried, crate::proofs::Shown::none_tried))]
+fn try_between(
+    alloc: Global,
+    client: &Version<'_>,
+    server: &Version<'_>,
+    call: &Call,
+) -> Result<Tried, OutOfMemory>
+    ensures { (old new : List Decl) → client.now ≡ client_of call.now.back old new
+        → server.now ≡ server_of call.now.back old new
+        → IfOk result (λ tried. IsTried old new (call_seen call.now) tried) }
+{
+    if call.method as usize >= client.methods(call.interface).len() {
         return Ok(Tried {
             showing: None,
             short: false,
         });
     }
-    match weigh(alloc, old, new, call)? {
+    match weigh(alloc, client, server, call)? {
         Some(showing) => Ok(shown(showing)),
         None => Ok(Tried {
             showing: None,
-            short: !may_fit(old, new, call),
+            short: !may_fit(client, call),
         }),
     }
 }

@@ -5,7 +5,7 @@ use Rattle.aidl_schema.specs.Broken.{Break}
 use Rattle.compat_witness.specs.Candidates.{AreSmall, Candidate, IsShown, Shows}
 use Rattle.compat_witness.specs.Rows.{Row}
 use Rattle.witness_search.specs.IsWitness.{IsAllowed, IsFirstShown, IsOf, IsOfRow, IsWitness, those_of}
-use Rattle.witness_search.specs.RowsByRule.{row_of}
+use Rattle.compat_witness.specs.RowsByRule.{row_of}
 use Rattle.witness_search.specs.declared.shown.NoCall.{NoCall}
 use Rattle.witness_search.specs.declared.shown.NoCall.TheVariants.{OutsideWire, NoCandidate}
 

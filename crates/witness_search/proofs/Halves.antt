@@ -2,10 +2,9 @@
 use Rattle.std.proofs.Common.{◌≡◌, ℕ, List, [], Option, Some, None, refl, sym, ap, ◌∙◌}
 use Rattle.std.specs.Str.{encode_utf8_all}
 use Rattle.aidl_schema.specs.declared.schema.Decl.{Decl}
-use Rattle.compat_witness.specs.Candidates.{AreSmall, Candidate, Shows}
 use Rattle.compat_witness.specs.Places.{at_slash}
 use Rattle.compat_witness.specs.Rows.{row_C6, row_C6_at, row_C7, row_C7_at}
-use Rattle.witness_search.specs.RowsByRule.{row_C6_both, row_C6_by}
+use Rattle.compat_witness.specs.RowsByRule.{row_C6_both, row_C6_by}
 use Rattle.witness_search.proofs.PlaceBytes.{halves, slashes_by_bytes}
 
 -- what stands before the slash
@@ -20,17 +19,6 @@ half (Some q) m r e = (q, refl, sym (ap front_of e))
 no_half : (o : Option (List ℕ × List ℕ)) → halves o ≡ None → o ≡ None
 no_half None e = refl
 no_half (Some q) e = absurd cc
-
--- the laws of C6 at both kinds of places
-pub either_place : (old new : List Decl) (p : List ℕ) (cs : List Candidate)
-    → (at_slash p ≡ None → row_C6 old new p ≡ Some cs → AreSmall old new cs → Shows old new cs)
-    → ((q : List ℕ × List ℕ) → at_slash p ≡ Some q → row_C6_at old new q.0 ≡ Some cs → AreSmall old new cs → Shows old new cs)
-    → row_C6_both old new p ≡ Some cs → AreSmall old new cs → Shows old new cs
-either_place old new p cs whole part = by (at_slash p) refl
-  where
-    by : (o : Option (List ℕ × List ℕ)) → at_slash p ≡ o → row_C6_by o old new p ≡ Some cs → AreSmall old new cs → Shows old new cs
-    by None e = whole e
-    by (Some q) e = part q e
 
 -- a place in UTF-8
 pub without_slash : (p text : List ℕ) → text ≡ encode_utf8_all p → None ≡ at_slash text → at_slash p ≡ None

@@ -25,11 +25,10 @@ use Rattle.witness_search.proofs.Firsts.{later}
 
 -- One call
 
-pub one_found : (old new : List Decl) (call : Call) (t : Tried) (showing : Showing) (r : Trial) → IsTried old new (call_seen call) t → t.showing ≡ Some showing
-    → r ≡ record { found = Some (record { call = call; showing = showing }); short = false } → IsFirstTrial old new (call_seen call ∷ []) r
-one_found old new call t showing r tried is e =
-    subst (λ z. IsFirstTrial old new (call_seen call ∷ []) z) (sym e)
-    (record { first = inl (refl, subst (λ o. Tries old new (call_seen call) o) is tried.tries); short = λ h. cc })
+pub one_found : (old new : List Decl) (call : Call) (t : Tried) (showing : Showing) → IsTried old new (call_seen call) t → t.showing ≡ Some showing
+    → IsFirstTrial old new (call_seen call ∷ []) (record { found = Some (record { call = call; showing = showing }); short = false })
+one_found old new call t showing tried is =
+    record { first = inl (refl, subst (λ o. Tries old new (call_seen call) o) is tried.tries); short = λ h. cc }
 
 pub one_tried : (old new : List Decl) (c : Candidate) (t : Tried) → IsTried old new c t → t.showing ≡ None → IsFirstTrial old new (c ∷ []) (record { found = None; short = t.short })
 one_tried old new c t tried is =

@@ -5,7 +5,7 @@ use Rattle.aidl_schema.specs.declared.schema.Decl.{Decl}
 use Rattle.aidl_schema.specs.Broken.{Break, Place}
 use Rattle.compat_witness.specs.Candidates.{Candidate, AreSmall, IsShown}
 use Rattle.compat_witness.specs.Rows.{Row}
-use Rattle.witness_search.specs.RowsByRule.{row_of}
+use Rattle.compat_witness.specs.RowsByRule.{row_of}
 use Rattle.witness_search.specs.declared.shown.NoCall.{NoCall}
 use Rattle.witness_search.specs.declared.shown.NoCall.TheVariants.{OutsideWire, NoCandidate}
 

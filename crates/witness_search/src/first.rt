@@ -1,11 +1,10 @@
 //! The first candidate that is shown.
-ghost use Rattle.std.specs.Prelude.{◌≡◌, ◌∷◌, [], IfOk, Some, false};
-ghost use Rattle.std.specs.List.{flat_map};
+ghost use Rattle.std.specs.Prelude.{◌∷◌, [], IfOk};
 ghost use Rattle.witness_calls.specs.Seen.{call_seen};
 ghost use Rattle.witness_search.specs.Asked.{candidates_seen, group_seen, part_seen};
 ghost use Rattle.witness_search.specs.steps.First.{IsFirst};
 ghost use Rattle.witness_search.specs.steps.Requests.{request_of, requests_of};
-ghost use Rattle.witness_search.specs.steps.Trials.{AreShownAlike, IsFirstTrial};
+ghost use Rattle.witness_search.specs.steps.Trials.{IsFirstTrial};
 
 use crate::candidates::{Candidates, Group, Part, Reach, one_value};
 use crate::pair::Pair;
@@ -64,22 +63,16 @@ fn try_one(alloc: Global, pair: &Pair<'_, '_>, call: Call) -> Result<Trial, OutO
 {
     let Tried { showing, short } = try_call(alloc, &pair.old, &pair.new, &call)?;
     match showing {
-        Some(showing) => Ok(found_one(Witness { call, showing })),
+        Some(showing) => Ok(Trial {
+            found: Some(Witness { call, showing }),
+            short: false,
+        }),
         None => Ok(Trial { found: None, short }),
     }
 }
 
-// A call that is shown.
-fn found_one(witness: Witness) -> Trial
-    ensures { result ≡ record { found = Some witness; short = false } }
-{
-    Trial {
-        found: Some(witness),
-        short: false,
-    }
-}
-
-// The first request of a group that is shown. The methods that reach its declaration show all or none by one value.
+// The first request of a group that is shown. The methods that reach its declaration show all or none by one value; so after one of
+// whose requests none is too long no other one is tried.
 fn first_of_group(
     alloc: Global,
     pair: &Pair<'_, '_>,
@@ -94,23 +87,8 @@ fn first_of_group(
     law_alike(after, before);
     let methods = pair.reaching(group.back, group.number);
     let values = group.values.as_slice();
-    first_of_methods(alloc, pair, group.back, methods, values)
-}
-
-// The first request of these methods that is shown. After one of whose requests none is too long no other one is tried.
-fn first_of_methods(
-    alloc: Global,
-    pair: &Pair<'_, '_>,
-    back: bool,
-    methods: &[Reach],
-    values: &[Value],
-) -> Result<Option<Witness>, OutOfMemory>
-    requires { AreShownAlike pair.now.old pair.now.new back methods.now }
-    ensures { IfOk result (λ found.
-        IsFirst pair.now.old pair.now.new (flat_map (requests_of back values.now) methods.now) found) }
-{
     for reach in methods {
-        let Trial { found, short } = try_method(alloc, pair, back, reach, values)?;
+        let Trial { found, short } = try_method(alloc, pair, group.back, reach, values)?;
         if let Some(found) = found {
             return Ok(Some(found));
         }
@@ -136,7 +114,10 @@ fn try_method(
     for value in values {
         let Trial { found, short } = try_request(alloc, pair, back, reach, value)?;
         if let Some(found) = found {
-            return Ok(found_one(found));
+            return Ok(Trial {
+                found: Some(found),
+                short: false,
+            });
         }
         all_short &= short;
     }

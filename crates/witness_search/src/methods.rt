@@ -7,7 +7,7 @@ ghost use Rattle.aidl_values.specs.Data.{none};
 ghost use Rattle.aidl_values.specs.View.{views};
 ghost use Rattle.wire_model.specs.Calls.{answer_of, returned};
 ghost use Rattle.compat_witness.specs.Rows as rows;
-ghost use Rattle.witness_search.specs.RowsByRule.{row_C6_both};
+ghost use Rattle.compat_witness.specs.RowsByRule.{row_C6_both};
 ghost use Rattle.witness_search.specs.steps.Gives.{GivesRow};
 ghost use Rattle.witness_search.specs.steps.Seen.{spot_seen};
 

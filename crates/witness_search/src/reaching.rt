@@ -3,8 +3,10 @@ ghost use Rattle.std.specs.Prelude.{◌≡◌, ◌==◌, ◌&&◌, ◌≤◌, �
 ghost use Rattle.std.specs.Option.{option_copied};
 ghost use Rattle.aidl_schema.specs.Broken.{is_there_and};
 ghost use Rattle.compat_witness.specs.Reaching as meant;
+ghost use Rattle.wire_model.specs.Calls.{descriptor};
+ghost use Rattle.wire_model.specs.Outcome.{declared_as};
 ghost use Rattle.witness_search.specs.ReachTables.{IsReachTable, row_at};
-ghost use Rattle.witness_search.specs.steps.Reached.{AreAdded, IsAdded, IsNamed, reached_from, reached_in};
+ghost use Rattle.witness_search.specs.steps.Reached.{AreAdded, IsAdded, reached_from, reached_in};
 
 use crate::candidates::Reach;
 use crate::spot::{only, spot_in};
@@ -82,7 +84,6 @@ fn add_methods(
     methods: &[Method],
     rows: &mut [Row<Reach>],
 ) -> Result<(), OutOfMemory>
-    requires named { IsNamed ends.now }
     requires few { length methods.now ≤ 4096 }
     ensures { OnOk result (AreAdded
         (λ k. reached_from 0
@@ -108,6 +109,7 @@ pub struct Ends<'a> {
     pub server: &'a Version<'a>,
     pub interface: u32,
     pub named: Option<u32>,
+    pub ghost is_named: { named ≡ declared_as server.now (descriptor client.now interface) },
 }
 
 // Adds a method to the row of a number.
@@ -125,7 +127,6 @@ fn add(rows: &mut [Row<Reach>], number: Option<u32>, reach: Reach) -> Result<(),
 
 // The declaration that a method reaches: the one that its only argument is of, which it has in both versions.
 fn declaration_reached(ends: &Ends<'_>, method: &Method) -> Option<u32>
-    requires { IsNamed ends.now }
     ensures { result ≡ meant.declaration_reached
         ends.now.client.now ends.now.server.now ends.now.interface method.now }
 {
@@ -139,7 +140,6 @@ fn declaration_reached(ends: &Ends<'_>, method: &Method) -> Option<u32>
 
 // Whether the server has a method by its names with the same id and this one argument.
 fn has_argument(ends: &Ends<'_>, method: &Method, arg: &Arg) -> bool
-    requires { IsNamed ends.now }
     ensures { result ≡ meant.has_argument ends.now.client.now
         ends.now.server.now ends.now.interface method.now arg.now }
 {

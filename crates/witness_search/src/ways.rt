@@ -21,7 +21,8 @@ use aidl_base::{OutOfMemory, Text};
 use aidl_schema::{AidlType, Arg, Form, Schema, Shape, form_in, is_in_way, is_named, same_type};
 use aidl_values::{Answer, Elements, Value, default_of};
 use std::alloc::Global;
-use witness_calls::{Values, Version, is_out};
+use stub_dispatch::is_out;
+use witness_calls::{Values, Version};
 
 impl Pair<'_, '_> {
     /// C7, at an argument: where one direction is `in`, a reply to that client with the default of the out; else a request from the version

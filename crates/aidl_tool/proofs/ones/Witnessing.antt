@@ -12,7 +12,7 @@ use Rattle.tree_commands.specs.Faults.{refused}
 use Rattle.tree_commands.specs.Judged.{break_line}
 use Rattle.witness_command.specs.Entries.{AreEntries, IsEntry, shown_lines}
 use Rattle.witness_search.specs.IsWitness.{IsFirstShown, IsOf, IsOfRow, those_of}
-use Rattle.witness_search.specs.RowsByRule.{row_of}
+use Rattle.compat_witness.specs.RowsByRule.{row_of}
 use Rattle.witness_search.specs.declared.shown.NoCall.{NoCall}
 use Rattle.witness_search.specs.declared.shown.NoCall.TheVariants.{OutsideWire, NoCandidate}
 

@@ -9,13 +9,6 @@ use Rattle.compat_witness.specs.Reaching.{is_at, reaches}
 use Rattle.witness_search.specs.Asked.{method_seen}
 use Rattle.witness_search.specs.ReachTables.{row_at}
 use Rattle.witness_search.specs.declared.candidates.Reach.{Reach}
-use Rattle.witness_search.specs.declared.reaching.Ends.{Ends}
-use Rattle.wire_model.specs.Calls.{descriptor}
-use Rattle.wire_model.specs.Outcome.{declared_as}
-
--- the server's declaration of the name that the client's interface has
-abbrev pub IsNamed : Ends → Type 0
-IsNamed e = e.named ≡ declared_as e.server.now (descriptor e.client.now e.interface)
 
 -- of the methods from the position m on, those that pass a test
 abbrev pub reached_from : ℕ → (Method → Bool) → ℕ → List Method → List (ℕ × ℕ)
