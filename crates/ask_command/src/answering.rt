@@ -23,7 +23,7 @@ pub struct Request {
 }
 
 /// What the service of a version answers a request. It reads strictly, and its handler answers every call with `not scripted`.
-pub fn answered(
+pub fn answer_request(
     alloc: Global,
     schema: &Schema,
     request: Request,
@@ -46,12 +46,12 @@ pub fn answered(
         request.code,
         bytes,
     );
-    transacted(alloc, schema, request, hash, bytes)
+    transact(alloc, schema, request, hash, bytes)
 }
 
 // The same, as what is received.
 #[tactic(auto, using(stub_dispatch::proofs::lemmas::Unscripted::unscripted_fits, crate::proofs::Unscripted::answers))]
-fn transacted(
+fn transact(
     alloc: Global,
     schema: &Schema,
     request: Request,

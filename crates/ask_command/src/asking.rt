@@ -13,7 +13,7 @@ ghost use Rattle.tool_frame.specs.Seen.{store_seen};
 ghost use Rattle.ask_command.specs.Asked as meant;
 ghost use Rattle.meta_calls.specs.Versions.{IsHash, IsVersion};
 
-use crate::answering::{Request, answered};
+use crate::answering::{Request, answer_request};
 use crate::interface::interface_found;
 use crate::printing::answered_text;
 use crate::version::{version_found, whole_found};
@@ -23,7 +23,7 @@ use aidl_schema::Schema;
 use api_versions::{Version, VersionsFault, version_folder, versions};
 use parcel_commands::parcel_of;
 use std::alloc::Global;
-use tool_frame::{Early, Exit, Halt, Printed, Verdict, end, limit_passed, load_existing};
+use tool_frame::{Early, Exit, Halt, Printed, Verdict, end, give, limit_passed, load_existing};
 use tool_words::AskWords;
 use tree_commands::check_tree;
 use version_lines::bad_versions;
@@ -92,11 +92,6 @@ fn ask_versions(
     let Version { files, .. } = version;
     let root = version_folder(alloc, asked.api, asked.version)?;
     let schema = check_tree(alloc, root.as_str(), files)?;
-    let asked = Asked {
-        version: asked.version,
-        interface: asked.interface,
-        code: asked.code,
-    };
     ask_answer(alloc, &schema, asked, hash, parcel.as_slice())
 }
 
@@ -110,21 +105,13 @@ fn all_numbered(alloc: Global, versions: Result<Row<Version>, u32>) -> Result<Ro
     }
 }
 
-/// What is asked: the number of the version, the canonical name of an interface, and a transaction code.
-#[derive(Clone, Copy)]
-pub struct Asked<'a> {
-    pub version: u32,
-    pub interface: &'a str,
-    pub code: u32,
-}
-
 /// What `ask` prints of a request, by the schema of the version and the hash that it keeps: `no interface NAME`; `collision NAME` where a
 /// method has a reserved name; or with exit 0, whatever the transport is, the lines `transport STATUS`, `saw SAW` and `reply HEX`.
 #[tactic(auto, using(tool_frame::proofs::lemmas::EarlyEnds::ends_there))]
 pub fn ask_answer(
     alloc: Global,
     schema: &Schema,
-    asked: Asked<'_>,
+    asked: AskWords<'_>,
     hash: Text,
     bytes: &[u8],
 ) -> Result<Printed, Early>
@@ -140,9 +127,7 @@ pub fn ask_answer(
         version: asked.version,
         code: asked.code,
     };
-    let answered = answered(alloc, schema, request, hash, bytes)?;
-    Ok(Printed {
-        text: answered_text(alloc, schema, interface, asked.code, &answered)?,
-        verdict: Verdict::Done,
-    })
+    let answered = answer_request(alloc, schema, request, hash, bytes)?;
+    let text = answered_text(alloc, schema, interface, asked.code, &answered);
+    give(text, Verdict::Done)
 }

@@ -1,12 +1,12 @@
 //! The three lines of what is answered.
-ghost use Rattle.std.specs.Prelude.{◌≡◌, option_map, IfOk, string_bytes};
+ghost use Rattle.std.specs.Prelude.{◌≡◌, true, option_map, string_bytes};
 ghost use Rattle.growing.specs.Grows.{Grows};
 ghost use Rattle.aidl_schema.specs.Find.{methods_at, position_of_code};
 ghost use Rattle.aidl_values.specs.View.{views};
 ghost use Rattle.ask_command.specs.Asked.{reply_text};
 ghost use Rattle.ask_command.specs.steps.Answered.{IsSeenBy, answered_text, saw_of};
 
-use aidl_base::{OutOfMemory, Row};
+use aidl_base::Row;
 use aidl_schema::{Schema, method_of_code};
 use aidl_values::Value;
 use call_runner::Methods;
@@ -23,10 +23,10 @@ pub fn answered_text(
     interface: u32,
     code: u32,
     answered: &Answered,
-) -> Result<String, OutOfMemory>
+) -> GrowingText
     requires { IsSeenBy schema.now.decls interface code answered.now.saw }
-    ensures { IfOk result (λ text.
-        string_bytes text ≡ answered_text schema.now.decls interface code answered.now) }
+    ensures { result.is_whole ≡ true → string_bytes result.text
+        ≡ answered_text schema.now.decls interface code answered.now }
 {
     let mut text = GrowingText::new(alloc);
     let transport = answered.transport;
@@ -36,7 +36,7 @@ pub fn answered_text(
     text.push_str("\nreply ");
     push_reply(alloc, &answered.reply, &mut text);
     text.push_str("\n");
-    text.into_string()
+    text
 }
 
 // Adds what the handler saw by the types of the method of a code, or null where it saw nothing.

@@ -1,5 +1,5 @@
 //! The version that is asked, and the hash that it keeps: each a step that may end the command early.
-ghost use Rattle.std.specs.Prelude.{◌≡◌, ◌==◌, find, true, IfOk, IfSome};
+ghost use Rattle.std.specs.Prelude.{◌≡◌, true, IfOk, IfSome};
 ghost use Rattle.api_versions.specs.Whole as whole;
 ghost use Rattle.ask_command.specs.Versions as step;
 ghost use Rattle.meta_calls.specs.Versions.{IsHash, IsVersion};
@@ -20,7 +20,10 @@ pub fn version_found(alloc: Global, number: u32, versions: Row<Version>) -> Resu
 {
     match version_numbered(number, versions) {
         Some(version) => Ok(version),
-        None => Err(no_version(alloc, number)),
+        None => {
+            let mut digits = Buffer::new();
+            Err(refusal(alloc, "no version ", digits.format(number)))
+        }
     }
 }
 
@@ -32,25 +35,12 @@ fn version_numbered(number: u32, versions: Row<Version>) -> Option<Version>
     if number < 1 || 9_999 < number {
         return None;
     }
-    first_numbered(number, versions)
-}
-
-fn first_numbered(number: u32, versions: Row<Version>) -> Option<Version>
-    ensures { result ≡ find (λ v. v.number == number) versions }
-{
     for version in versions.into_vec() {
         if version.number == number {
             return Some(version);
         }
     }
     None
-}
-
-fn no_version(alloc: Global, number: u32) -> Early
-    ensures { EndsAs result (step.no_version number) }
-{
-    let mut digits = Buffer::new();
-    refusal(alloc, "no version ", digits.format(number))
 }
 
 /// The hash of a version, the 40 digits that its `.hash` keeps; the line `torn` of one that isn't whole.

@@ -2,7 +2,7 @@
 ghost use Rattle.std.specs.Prelude.{◌≡◌, [], None, IfOk};
 ghost use Rattle.aidl_schema.specs.Broken.{broken};
 ghost use Rattle.make_command.specs.Making.{by_breaks};
-ghost use Rattle.make_command.specs.steps.Steps.{course_by};
+ghost use Rattle.run_command.specs.steps.Steps.{course_by};
 ghost use Rattle.tool_frame.specs.Course.{Course};
 
 use aidl_base::OutOfMemory;
@@ -23,9 +23,8 @@ pub fn judge_made(alloc: Global, old: &Schema, new: &Schema) -> Result<Option<Pr
     if rows.len() == 0 {
         return Ok(None);
     }
-    let text = judge_lines(alloc, rows.as_slice())?;
     Ok(Some(Printed {
-        text,
+        text: judge_lines(alloc, rows.as_slice()).into_string()?,
         verdict: Verdict::Negative,
     }))
 }

@@ -9,7 +9,7 @@ use crate::tally::Tally;
 use aidl_schema::Schema;
 use growing::GrowingText;
 use std::alloc::Global;
-use tool_frame::{Early, Printed, Verdict};
+use tool_frame::{Early, Printed, Verdict, give};
 
 /// The four lines of two schemas of which the newer one may follow the older: the numbers of their declarations; how many rules are
 /// broken, which is none; how many lines came to what; and the bytes that were sent. Memory may be wanted.
@@ -37,10 +37,7 @@ pub fn made_answer(
         &mut text,
     );
     writeln!(text, "sent {sent}");
-    Ok(Printed {
-        text: text.into_string()?,
-        verdict: Verdict::Done,
-    })
+    give(text, Verdict::Done)
 }
 
 // Adds how many lines came to what.

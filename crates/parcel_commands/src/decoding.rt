@@ -16,7 +16,7 @@ use json_writing::push_value_text;
 use marshal_plans::{PlanId, Plans, compile};
 use parcel_read::read;
 use std::alloc::Global;
-use tool_frame::{Early, Printed, Verdict};
+use tool_frame::{Early, Printed, Verdict, give};
 
 // What each item of a parcel is read by: the profile, the schema that its type is of, and the plans of its types.
 #[derive(Clone, Copy)]
@@ -47,10 +47,7 @@ pub fn decode(
     };
     let mut text = GrowingText::new(alloc);
     let verdict = push_items(alloc, &decoder, types, parcel, &mut text);
-    Ok(Printed {
-        text: text.into_string()?,
-        verdict,
-    })
+    give(text, verdict)
 }
 
 // Adds the lines of the items, by plans of their types, and the line for the bytes after the last item, where there are some. How the

@@ -16,11 +16,11 @@ ghost use Rattle.parcel_commands.specs.JsonFile.{AreTyped, unread_refusal, value
 ghost use Rattle.tool_frame.specs.Refusals.{within};
 ghost use Rattle.parcel_commands.specs.steps.Planned.{ArePlanned};
 ghost use Rattle.parcel_commands.specs.steps.Spelled.{spelled};
-ghost use Rattle.tool_frame.specs.Results.{EndsAs, Finds, Gives, printed};
+ghost use Rattle.tool_frame.specs.Results.{EndsAs, Finds, Gives};
 
 use crate::json_file::{Unread, values_of};
 use crate::steps::known_types;
-use aidl_base::{Limit, LimitName, OutOfMemory};
+use aidl_base::{Limit, LimitName};
 use aidl_schema::{AidlType, Schema};
 use aidl_values::Value;
 use growing::GrowingText;
@@ -30,7 +30,7 @@ use parcel_words::WordWriter;
 use parcel_write::{put_value, spelled_length};
 use serde_json::Value as Json;
 use std::alloc::Global;
-use tool_frame::{Early, Printed, Verdict, limit_passed, refusal};
+use tool_frame::{Early, Printed, Verdict, end_as, give, limit_passed, refusal};
 
 /// What `encode` prints of the text of its file.
 #[tactic(auto, using(tool_frame::proofs::lemmas::EarlyEnds::ends_there))]
@@ -41,8 +41,7 @@ pub fn encode(alloc: Global, schema: &Schema, types: &str, text: &[u8]) -> Resul
     let json = json_in(alloc, text)?;
     let values = values_in(alloc, schema, known.as_slice(), &json)?;
     let parcel = parcel_of(alloc, schema, known.as_slice(), values.as_slice())?;
-    let printed = hexadecimal_line(alloc, parcel.as_slice())?;
-    Ok(printed)
+    hexadecimal_line(alloc, parcel.as_slice())
 }
 
 // The value of a JSON text.
@@ -95,13 +94,7 @@ fn refused_value(alloc: Global, name: &str, place: usize, at: &str) -> Early
 {
     let mut text = GrowingText::new(alloc);
     writeln!(text, "refused {name} /{place}{at}");
-    match text.into_string() {
-        Ok(text) => Early::Answered(Printed {
-            text,
-            verdict: Verdict::Negative,
-        }),
-        Err(_) => Early::OutOfMemory,
-    }
+    end_as(text, Verdict::Negative)
 }
 
 // The printed name of a refusal and its place in the value. None of a want of memory.
@@ -191,13 +184,18 @@ fn put_values(
 }
 
 // One line of lower-case hexadecimal.
-fn hexadecimal_line(alloc: Global, bytes: &[u8]) -> Result<Printed, OutOfMemory>
-    ensures { IfOk result (λ p. printed p ≡ done (encode_lower bytes.now)) }
+fn hexadecimal_line(alloc: Global, bytes: &[u8]) -> Result<Printed, Early>
+    ensures { Gives result (done (encode_lower bytes.now)) }
 {
-    let mut text = hex::encode(alloc, bytes)?;
-    text.push_str("\n")?;
-    Ok(Printed {
-        text,
-        verdict: Verdict::Done,
-    })
+    match hex::encode(alloc, bytes) {
+        Ok(text) => {
+            let mut text = GrowingText {
+                text,
+                is_whole: true,
+            };
+            text.push_str("\n");
+            give(text, Verdict::Done)
+        }
+        Err(_) => Err(Early::OutOfMemory),
+    }
 }

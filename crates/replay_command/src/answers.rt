@@ -2,7 +2,7 @@
 ghost use Rattle.std.specs.Prelude.{◌≡◌, option_map};
 ghost use Rattle.growing.specs.Grows.{Grows};
 ghost use Rattle.aidl_values.specs.View.{views};
-ghost use Rattle.replay_command.specs.Replaying.{called_line, refused_line};
+ghost use Rattle.replay_command.specs.Replaying.{refused_line};
 ghost use Rattle.replay_command.specs.steps.Answered.{answered_line, AreThere, IsSeenBy};
 ghost use Rattle.run_command.specs.LineText.{saw_text};
 
@@ -40,32 +40,15 @@ pub fn push_answered(
 {
     let transport = answered.transport;
     if transport == 0 {
-        push_called(alloc, printer, methods, number, &answered.saw, out);
+        out.push_str("{\"line\":");
+        write!(out, "{number},\"saw\":");
+        push_seen(alloc, printer, methods, &answered.saw, out);
+        out.push_str(",\"transport\":0}\n");
     } else {
         out.push_str("{\"line\":");
         write!(out, "{number},\"transport\":{transport}");
         out.push_str("}\n");
     }
-}
-
-fn push_called(
-    alloc: Global,
-    printer: &mut SidePrinter<'_>,
-    methods: Option<Methods>,
-    number: usize,
-    saw: &Option<Row<Value>>,
-    out: &mut GrowingText,
-)
-    requires there { AreThere printer.old methods }
-    requires typed { IsSeenBy printer.old methods saw.now }
-    ensures same { printer.new ≡ printer.old }
-    ensures text { Grows out.old out.new
-        (called_line number (saw_text printer.old methods (option_map views saw.now))) }
-{
-    out.push_str("{\"line\":");
-    write!(out, "{number},\"saw\":");
-    push_seen(alloc, printer, methods, saw, out);
-    out.push_str(",\"transport\":0}\n");
 }
 
 // Adds what the handler saw, null where it wasn't called.

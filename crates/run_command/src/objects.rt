@@ -1,4 +1,4 @@
-//! The line of what a line of a calls file comes to.
+//! The object of what a line of a calls file comes to.
 ghost use Rattle.std.specs.Prelude.{◌≡◌, ◌++◌, ◌<◌, Ok, Some, codes, option_map, length};
 ghost use Rattle.std.specs.Fmt.{decimal, signed_decimal};
 ghost use Rattle.std.specs.Str.{encode_utf8_all};
@@ -10,7 +10,7 @@ ghost use Rattle.call_runner.specs.Runs.{AreSeen, IsGotBy, IsTyped, line_data};
 ghost use Rattle.call_runner.specs.declared.line.Methods.{Methods as TheMethods};
 ghost use Rattle.call_scripts.specs.Calls.{refusal_of};
 ghost use Rattle.run_command.specs.LineText.{called_text, client_text, code_text, error_text};
-ghost use Rattle.run_command.specs.LineText.{line_text, object_text, quoted, refused_text, saw_text};
+ghost use Rattle.run_command.specs.LineText.{object_text, quoted, refused_text, saw_text};
 ghost use Rattle.wire_model.specs.Calls.{optional_view, returned};
 
 use crate::methods::{outs_of, types_of};
@@ -24,8 +24,8 @@ use itoa::Buffer;
 use std::alloc::Global;
 use stub_dispatch::SERVICE_SPECIFIC;
 
-/// Adds the line of what the line with a number comes to between a client and a server.
-pub fn push_line(
+/// Adds the object that the line with a number comes to between a client and a server, without a newline.
+pub fn push_object(
     alloc: Global,
     printers: &mut Printers<'_>,
     number: usize,
@@ -35,11 +35,25 @@ pub fn push_line(
     // Its values have the types of its methods.
     requires { IsTyped printers.old.client printers.old.server run.now.methods run.now.out }
     ensures same { printers.new ≡ printers.old }
-    ensures text { Grows out.old out.new (line_text printers.old.client printers.old.server
+    ensures text { Grows out.old out.new (object_text printers.old.client printers.old.server
         run.now.methods number (line_data run.now.out)) }
 {
-    push_object(alloc, printers, number, run, out);
-    out.push_str("\n");
+    match &run.out {
+        LineOut::Refused(why) => push_refused(alloc, number, why, out),
+        LineOut::Transport { status } => push_transport(number, *status, out),
+        LineOut::OnewayDone { saw } => {
+            let methods = known(run.methods);
+            out.push_str("{");
+            push_called(alloc, &mut printers.server, number, methods, saw, out);
+        }
+        LineOut::Done { saw, client: got } => {
+            let methods = known(run.methods);
+            out.push_str("{\"client\":");
+            push_client(alloc, &mut printers.client, methods, got, out);
+            out.push_str(",");
+            push_called(alloc, &mut printers.server, number, methods, saw, out);
+        }
+    }
 }
 
 /// Adds SAW: the array of what the handler of the server's method saw, or null where it wasn't called.
@@ -64,37 +78,6 @@ pub fn push_saw(
                 Ok(types) => push_values(alloc, server, types.as_slice(), values.as_slice(), out),
                 Err(_) => out.lose(),
             }
-        }
-    }
-}
-
-// Adds the object that the line with a number comes to, without a newline.
-fn push_object(
-    alloc: Global,
-    printers: &mut Printers<'_>,
-    number: usize,
-    run: &LineRun,
-    out: &mut GrowingText,
-)
-    requires { IsTyped printers.old.client printers.old.server run.now.methods run.now.out }
-    ensures same { printers.new ≡ printers.old }
-    ensures text { Grows out.old out.new (object_text printers.old.client printers.old.server
-        run.now.methods number (line_data run.now.out)) }
-{
-    match &run.out {
-        LineOut::Refused(why) => push_refused(alloc, number, why, out),
-        LineOut::Transport { status } => push_transport(number, *status, out),
-        LineOut::OnewayDone { saw } => {
-            let methods = known(run.methods);
-            out.push_str("{");
-            push_called(alloc, &mut printers.server, number, methods, saw, out);
-        }
-        LineOut::Done { saw, client: got } => {
-            let methods = known(run.methods);
-            out.push_str("{\"client\":");
-            push_client(alloc, &mut printers.client, methods, got, out);
-            out.push_str(",");
-            push_called(alloc, &mut printers.server, number, methods, saw, out);
         }
     }
 }

@@ -6,7 +6,7 @@ ghost use Rattle.call_runner.specs.Runs.{IsTyped, line_data};
 ghost use Rattle.run_command.specs.Running.{piece};
 ghost use Rattle.run_command.specs.Trace.{trace_line, trace_text, way_text};
 
-use crate::objects::push_line;
+use crate::objects::push_object;
 use crate::printers::Printers;
 use aidl_base::OutOfMemory;
 use aidl_outside::{Carried, Way};
@@ -32,12 +32,10 @@ pub fn line_piece(
         ≡ piece printers.old.client printers.old.server trace number
         run.now.carried run.now.methods (line_data run.now.out)) }
 {
-    let mut text = GrowingText {
-        text: String::with_capacity(alloc, LINE_ROOM)?,
-        is_whole: true,
-    };
+    let mut text = GrowingText::with_room(alloc, LINE_ROOM);
     push_trace(alloc, trace, run.carried.as_slice(), &mut text);
-    push_line(alloc, printers, number, run, &mut text);
+    push_object(alloc, printers, number, run, &mut text);
+    text.push_str("\n");
     text.into_string()
 }
 

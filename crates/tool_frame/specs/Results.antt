@@ -1,18 +1,24 @@
 -- What the results of steps stand for.
-use Rattle.std.specs.Prelude.{◌≡◌, ℕ, ◌≤◌, List, length, Option, Some, Result, Ok, Err, Vec, string_bytes}
+use Rattle.std.specs.Prelude.{◌≡◌, ℕ, ◌≤◌, true, List, length, Option, Some, Result, Ok, Err, Vec, string_bytes}
 use Rattle.std.specs.Option.{option_map}
 use Rattle.std.specs.declared.alloc.Global.{Global}
 use Rattle.aidl_base.specs.declared.limit.Limit.{Limit}
 use Rattle.aidl_base.specs.declared.limit.LimitName.{LimitName}
 use Rattle.aidl_base.specs.Limits.{limit_number}
+use Rattle.growing.specs.declared.text.GrowingText.{GrowingText}
 use Rattle.tool_frame.specs.declared.printed.Early.{Early}
 use Rattle.tool_frame.specs.declared.printed.Early.TheVariants.{Answered, OutOfMemory}
 use Rattle.tool_frame.specs.declared.printed.Printed.{Printed}
+use Rattle.tool_frame.specs.declared.verdict.Verdict.{Verdict}
 use Rattle.tool_frame.specs.Answer.{Answer, Found, limit_passed}
 
 -- a text and a verdict are an answer
 abbrev pub printed : Printed → Answer
 printed p = record { text = string_bytes p.text; verdict = p.verdict }
+
+-- a text that grew is that of the answer, with its verdict, if memory was there for each piece
+abbrev pub IsGrown : GrowingText → Verdict → Answer → Type 0
+IsGrown text verdict answer = text.is_whole ≡ true → record { text = string_bytes text.text; verdict = verdict } ≡ answer
 
 -- an early end is the answer, or memory was wanted
 abbrev pub EndsAs : Early → Answer → Type 0

@@ -18,7 +18,7 @@ pub use ending::end;
 pub use exit::Exit;
 pub use halt::Halt;
 pub use loading::load_existing;
-pub use printed::{Early, Printed, limit_passed, refusal};
+pub use printed::{Early, Printed, end_as, give, limit_passed, refusal};
 pub use putting::{print, put};
 pub use refusing::refuse;
 pub use shown::push_shown;

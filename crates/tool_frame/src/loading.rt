@@ -12,7 +12,7 @@ ghost use Rattle.tool_frame.specs.Results.{IsShort, held, loaded};
 ghost use Rattle.tool_frame.specs.Seen.{store_seen};
 
 use crate::halt::Halt;
-use crate::steps::existing_file;
+use crate::printed::refusal;
 use aidl_base::{Limit, LimitName};
 use aidl_outside::{Store, StoreFault};
 use std::alloc::Global;
@@ -28,9 +28,10 @@ pub fn load_existing<S: Store>(
         Loads (AsksFile which path.now) held (λ files. there path.now (file_at which files path.now))
         (seen store.old) (seen store.new) result }
 {
-    let file = load(alloc, which, path, store)?;
-    let found = existing_file(alloc, path, file)?;
-    Ok(found)
+    match load(alloc, which, path, store)? {
+        Some(found) => Ok(found),
+        None => Err(Halt::from(refusal(alloc, "no file ", path))),
+    }
 }
 
 /// The file at a path, or the limit that its bytes pass; None where nothing stands there. A `StoreFault` where the call failed or memory was
@@ -50,18 +51,9 @@ pub fn load<S: Store>(
         (FailedIn (S.fault_record store.new) (AsksFile which path.now (S.kept store.old))) }
 {
     match store.read(alloc, path, which.number() as usize) {
-        Ok(file) => Ok(file_held(which, file)),
+        Ok(Some(bytes)) => Ok(Some(within_limit(which, bytes))),
+        Ok(None) => Ok(None),
         Err(fault) => Err(fault),
-    }
-}
-
-fn file_held(which: LimitName, file: Option<Vec<u8>>) -> Option<Result<Vec<u8>, Limit>>
-    ensures file { loaded result ≡ option_map (λ bytes. within which bytes.items) file }
-    ensures short { IsShort which result }
-{
-    match file {
-        Some(bytes) => Some(within_limit(which, bytes)),
-        None => None,
     }
 }
 

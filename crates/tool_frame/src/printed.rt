@@ -1,13 +1,12 @@
 //! What a command prints with its verdict, and how it ends early: by a refusal, a passed limit or want of memory.
-ghost use Rattle.std.specs.Prelude.{◌≡◌, ◌++◌, ℕ, codes, IfOk, string_bytes};
-ghost use Rattle.std.specs.Fmt.{decimal};
-ghost use Rattle.tool_frame.specs.Answer.{line, negative, limit_passed};
-ghost use Rattle.tool_frame.specs.Results.{EndsAs};
+ghost use Rattle.std.specs.Prelude.{◌≡◌, ◌++◌};
+ghost use Rattle.tool_frame.specs.Answer.{Answer, negative, limit_passed};
+ghost use Rattle.tool_frame.specs.Results.{EndsAs, Gives, IsGrown};
 
 use crate::verdict::Verdict;
 use aidl_base::{Limit, OutOfMemory};
+use growing::GrowingText;
 use std::alloc::Global;
-use std::fmt::Write;
 
 /// A text to print, and the verdict that goes with it.
 #[derive(Drop)]
@@ -34,46 +33,44 @@ impl From<OutOfMemory> for Early {
     }
 }
 
-/// One negative line: a word and what follows it.
-pub fn refusal(alloc: Global, front: &str, rest: &str) -> Early
-    ensures { EndsAs result (negative (front.now ++ rest.now)) }
+/// What is printed of a text that grew, with its verdict, where memory was there for each piece.
+pub fn give(text: GrowingText, verdict: Verdict) -> Result<Printed, Early>
+    ensures { (answer : Answer) → IsGrown text verdict answer → Gives result answer }
 {
-    match line_of(alloc, front, rest) {
-        Ok(text) => Early::Answered(Printed {
-            text,
-            verdict: Verdict::Negative,
-        }),
+    match text.into_string() {
+        Ok(text) => Ok(Printed { text, verdict }),
+        Err(_) => Err(Early::OutOfMemory),
+    }
+}
+
+/// An early end with a text that grew, and its verdict, where memory was there for each piece.
+pub fn end_as(text: GrowingText, verdict: Verdict) -> Early
+    ensures { (answer : Answer) → IsGrown text verdict answer → EndsAs result answer }
+{
+    match text.into_string() {
+        Ok(text) => Early::Answered(Printed { text, verdict }),
         Err(_) => Early::OutOfMemory,
     }
 }
 
-fn line_of(alloc: Global, front: &str, rest: &str) -> Result<String, OutOfMemory>
-    ensures { IfOk result (λ text. string_bytes text ≡ line (front.now ++ rest.now)) }
+/// One negative line: a word and what follows it.
+pub fn refusal(alloc: Global, front: &str, rest: &str) -> Early
+    ensures { EndsAs result (negative (front.now ++ rest.now)) }
 {
-    let mut text = String::from_str(alloc, front)?;
-    text.push_str(rest)?;
-    text.push_str("\n")?;
-    Ok(text)
+    let mut text = GrowingText::new(alloc);
+    text.push_str(front);
+    text.push_str(rest);
+    text.push_str("\n");
+    end_as(text, Verdict::Negative)
 }
 
 /// The line for a limit that was passed.
 pub fn limit_passed(alloc: Global, limit: Limit) -> Early
     ensures { EndsAs result (limit_passed limit.which) }
 {
-    match limit_line(alloc, limit.which.name(), limit.which.number()) {
-        Ok(text) => Early::Answered(Printed {
-            text,
-            verdict: Verdict::LimitPassed,
-        }),
-        Err(_) => Early::OutOfMemory,
-    }
-}
-
-fn limit_line(alloc: Global, name: &str, number: u32) -> Result<String, OutOfMemory>
-    ensures { IfOk result (λ text. string_bytes text
-        ≡ line (codes "limit " ++ name.now ++ codes " " ++ decimal number)) }
-{
-    let mut text = String::new(alloc);
-    writeln!(text, "limit {name} {number}")?;
-    Ok(text)
+    let name = limit.which.name();
+    let number = limit.which.number();
+    let mut text = GrowingText::new(alloc);
+    writeln!(text, "limit {name} {number}");
+    end_as(text, Verdict::LimitPassed)
 }

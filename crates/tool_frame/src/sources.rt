@@ -5,7 +5,7 @@ ghost use Rattle.tool_frame.specs.Seen.{store_seen};
 ghost use Rattle.tool_frame.specs.Trees.{tree_at};
 
 use crate::halt::Halt;
-use crate::steps::files_of;
+use crate::printed::limit_passed;
 use crate::tree::load_tree;
 use aidl_base::{Row, SourceFile};
 use aidl_outside::Store;
@@ -21,7 +21,8 @@ pub fn load_sources<S: Store>(
         Loads (AsksTree root.now) (λ sources. sources) (λ files. tree_at files root.now)
         (seen store.old) (seen store.new) result }
 {
-    let tree = load_tree(alloc, root, store)?;
-    let files = files_of(alloc, tree)?;
-    Ok(files)
+    match load_tree(alloc, root, store)? {
+        Ok(files) => Ok(files),
+        Err(limit) => Err(Halt::from(limit_passed(alloc, limit))),
+    }
 }

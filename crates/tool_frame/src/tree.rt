@@ -1,7 +1,5 @@
 //! Loading the `.aidl` files of a tree from a store, within the limits on their number and their bytes.
 ghost use Rattle.std.specs.Prelude.{◌≡◌, ◌++◌, ◌∷◌, [], All, IfOk, OnOk, map, string_bytes, true};
-ghost use Rattle.std.specs.List.{filter};
-ghost use Rattle.std.specs.Str.{chars};
 ghost use Rattle.aidl_base.specs.declared.limit.LimitName.TheVariants.{FileBytes};
 ghost use Rattle.aidl_outside.specs.Asks.{AsksFile};
 ghost use Rattle.aidl_outside.specs.Causes.{StoreCause};
@@ -58,17 +56,9 @@ fn source_paths<S: Store>(
     ensures failed { IfStoreFailed result (FailedIn (S.fault_record store.new) (λ call. call
         ≡ lists root.now)) }
 {
-    let paths = store.list(alloc, root)?;
-    Ok(sources(paths))
-}
-
-// The paths of sources among some paths.
-fn sources(paths: Vec<String>) -> Vec<String>
-    ensures { map string_bytes result.items ≡ filter is_source (map string_bytes paths.items) }
-{
-    let mut sources = paths;
-    sources.retain(|path| is_source(path.as_str()));
-    sources
+    let mut paths = store.list(alloc, root)?;
+    paths.retain(|path| is_source(path.as_str()));
+    Ok(paths)
 }
 
 fn is_source(path: &str) -> bool
@@ -118,30 +108,12 @@ fn load_next<S: Store>(
     ensures failed { IfStoreFailed result (FailedIn (S.fault_record store.new)
         (AsksFile FileBytes (path_below root.now (string_bytes path)) (S.kept store.old))) }
 {
-    let file = load_below(alloc, root, path.as_str(), store)?;
+    let Ok(whole) = path_below(alloc, root, path.as_str()) else {
+        return Err(StoreFault::OutOfMemory);
+    };
+    let file = load(alloc, LimitName::FileBytes, whole.as_str(), store)?;
     match push_loaded(files, path, file) {
         Ok(step) => Ok(step),
-        Err(_) => Err(StoreFault::OutOfMemory),
-    }
-}
-
-// The file at a path below a root, where one stands there.
-fn load_below<S: Store>(
-    alloc: Global,
-    root: &str,
-    path: &str,
-    store: &mut S,
-) -> Result<Option<Result<Vec<u8>, Limit>>, StoreFault>
-    ensures file { IfOk result (λ file. Tells (S.kept store.old) (λ files. loaded file
-        ≡ file_at FileBytes files (path_below root.now path.now))) }
-    ensures short { IfOk result (IsShort FileBytes) }
-    ensures unchanged { S.kept store.new ≡ S.kept store.old }
-    ensures cause { StoreCause (S.fault_record store.old) (S.fault_record store.new) result }
-    ensures failed { IfStoreFailed result (FailedIn (S.fault_record store.new)
-        (AsksFile FileBytes (path_below root.now path.now) (S.kept store.old))) }
-{
-    match path_below(alloc, root, path) {
-        Ok(whole) => load(alloc, LimitName::FileBytes, whole.as_str(), store),
         Err(_) => Err(StoreFault::OutOfMemory),
     }
 }
@@ -160,17 +132,11 @@ fn push_loaded(
         None => Ok(Ok(())),
         Some(Err(limit)) => Ok(Err(limit)),
         Some(Ok(bytes)) => {
-            files.push(source_file(path, bytes))?;
+            files.push(SourceFile {
+                path: Text::from_string(path),
+                bytes: Row::from_vec(bytes),
+            })?;
             Ok(Ok(()))
         }
-    }
-}
-
-fn source_file(path: String, bytes: Vec<u8>) -> SourceFile
-    ensures { result ≡ record { path = chars (string_bytes path); bytes = bytes.items } }
-{
-    SourceFile {
-        path: Text::from_string(path),
-        bytes: Row::from_vec(bytes),
     }
 }

@@ -22,19 +22,20 @@ pub fn command_of(words: &[String]) -> Option<Command<'_>>
     }
 }
 
+#[tactic(auto, unfolding(crate::specs::Rows::check_row, crate::specs::Rows::verify_row, crate::specs::Rows::rehash_row, crate::specs::Rows::dump_row, crate::specs::Rows::freeze_row, crate::specs::Rows::judge_row, crate::specs::Rows::witness_row))]
 fn in_row<'a>(name: &str, words: &'a [String]) -> Option<Command<'a>>
     ensures { option_map command_seen result ≡ table.in_row name.now (map string_bytes words.now) }
 {
     match name {
         "decode" => decode(words),
         "encode" => encode(words),
-        "check" => check(words),
-        "dump" => dump(words),
-        "freeze" => freeze(words),
-        "verify" => verify(words),
-        "rehash" => rehash(words),
-        "judge" => judge(words),
-        "witness" => witness(words),
+        "check" => one_path(words).map(|tree| Command::Check { tree }),
+        "dump" => two_paths(words).map(|(tree, out)| Command::Dump { tree, out }),
+        "freeze" => two_paths(words).map(|(tree, api)| Command::Freeze { tree, api }),
+        "verify" => one_path(words).map(|api| Command::Verify { api }),
+        "rehash" => one_path(words).map(|api| Command::Rehash { api }),
+        "judge" => two_paths(words).map(|(old, new)| Command::Judge { old, new }),
+        "witness" => two_paths(words).map(|(old, new)| Command::Witness { old, new }),
         "run" => run(words),
         "make" => make(words),
         "ask" => ask(words),
@@ -85,62 +86,6 @@ fn explain(words: &[String]) -> Option<Command<'_>>
     let (types, path) = types_and_file(after_tree(words))?;
     let file = TypedFile { tree, types, path };
     Some(Command::Explain { file })
-}
-
-#[tactic(auto, unfolding(crate::specs::Rows::check_row))]
-fn check(words: &[String]) -> Option<Command<'_>>
-    ensures { option_map command_seen result ≡ table.check_row (map string_bytes words.now) }
-{
-    let tree = one_path(words)?;
-    Some(Command::Check { tree })
-}
-
-#[tactic(auto, unfolding(crate::specs::Rows::verify_row))]
-fn verify(words: &[String]) -> Option<Command<'_>>
-    ensures { option_map command_seen result ≡ table.verify_row (map string_bytes words.now) }
-{
-    let api = one_path(words)?;
-    Some(Command::Verify { api })
-}
-
-#[tactic(auto, unfolding(crate::specs::Rows::rehash_row))]
-fn rehash(words: &[String]) -> Option<Command<'_>>
-    ensures { option_map command_seen result ≡ table.rehash_row (map string_bytes words.now) }
-{
-    let api = one_path(words)?;
-    Some(Command::Rehash { api })
-}
-
-#[tactic(auto, unfolding(crate::specs::Rows::dump_row))]
-fn dump(words: &[String]) -> Option<Command<'_>>
-    ensures { option_map command_seen result ≡ table.dump_row (map string_bytes words.now) }
-{
-    let (tree, out) = two_paths(words)?;
-    Some(Command::Dump { tree, out })
-}
-
-#[tactic(auto, unfolding(crate::specs::Rows::freeze_row))]
-fn freeze(words: &[String]) -> Option<Command<'_>>
-    ensures { option_map command_seen result ≡ table.freeze_row (map string_bytes words.now) }
-{
-    let (tree, api) = two_paths(words)?;
-    Some(Command::Freeze { tree, api })
-}
-
-#[tactic(auto, unfolding(crate::specs::Rows::judge_row))]
-fn judge(words: &[String]) -> Option<Command<'_>>
-    ensures { option_map command_seen result ≡ table.judge_row (map string_bytes words.now) }
-{
-    let (old, new) = two_paths(words)?;
-    Some(Command::Judge { old, new })
-}
-
-#[tactic(auto, unfolding(crate::specs::Rows::witness_row))]
-fn witness(words: &[String]) -> Option<Command<'_>>
-    ensures { option_map command_seen result ≡ table.witness_row (map string_bytes words.now) }
-{
-    let (old, new) = two_paths(words)?;
-    Some(Command::Witness { old, new })
 }
 
 #[tactic(auto, unfolding(crate::specs::Rows::run_row))]

@@ -21,7 +21,7 @@ use aidl_outside::{Sink, Store};
 use aidl_schema::Schema;
 use growing::GrowingText;
 use std::alloc::Global;
-use tool_frame::{Early, Exit, Halt, Printed, Verdict, end};
+use tool_frame::{Early, Exit, Halt, Printed, Verdict, end, give};
 
 /// Runs `check TREE`. The answer is the exit.
 pub fn check<S: Store, K: Sink>(alloc: Global, root: &str, store: &mut S, sink: &mut K) -> Exit
@@ -50,10 +50,7 @@ fn accepted(alloc: Global, schema: &Schema) -> Result<Printed, Early>
     let count = schema.decls.len();
     let mut text = GrowingText::new(alloc);
     writeln!(text, "ok {count} types");
-    Ok(Printed {
-        text: text.into_string()?,
-        verdict: Verdict::Done,
-    })
+    give(text, Verdict::Done)
 }
 
 /// The schema of the files of a tree with a root. Where the tree isn't checked it answers what is printed of it: with exit 1 one

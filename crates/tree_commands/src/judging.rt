@@ -1,5 +1,5 @@
 //! The command `judge`: the evolution rules that a new tree breaks, or that it breaks none.
-ghost use Rattle.std.specs.Prelude.{◌≡◌, codes, IfOk, map, string_bytes};
+ghost use Rattle.std.specs.Prelude.{◌≡◌, true, codes, map, string_bytes};
 ghost use Rattle.growing.specs.Grows.{Grows};
 ghost use Rattle.tool_frame.specs.Due.{AsksTreeThen};
 ghost use Rattle.tool_frame.specs.Outside.{LinkSeen, seen_beside};
@@ -17,13 +17,12 @@ ghost use Rattle.tool_frame.specs.Answer.{done};
 ghost use Rattle.tool_frame.specs.Results.{Gives};
 
 use crate::opening::open_both;
-use aidl_base::OutOfMemory;
 use aidl_outside::{Sink, Store};
 use aidl_schema::Schema;
 use compat_judge::Broken;
 use growing::GrowingText;
 use std::alloc::Global;
-use tool_frame::{Early, Exit, Halt, Printed, Verdict, end};
+use tool_frame::{Early, Exit, Halt, Printed, Verdict, end, give};
 
 /// Runs `judge OLD NEW`. The answer is the exit.
 pub fn judge<S: Store, K: Sink>(
@@ -65,11 +64,7 @@ fn judge_schemas(alloc: Global, old: &Schema, new: &Schema) -> Result<Printed, E
     if rows.len() == 0 {
         return answer_yes(alloc);
     }
-    let text = judge_lines(alloc, rows.as_slice())?;
-    Ok(Printed {
-        text,
-        verdict: Verdict::Negative,
-    })
+    give(judge_lines(alloc, rows.as_slice()), Verdict::Negative)
 }
 
 /// The line `yes`, with exit 0.
@@ -78,21 +73,19 @@ pub fn answer_yes(alloc: Global) -> Result<Printed, Early>
 {
     let mut text = GrowingText::new(alloc);
     text.push_str("yes\n");
-    Ok(Printed {
-        text: text.into_string()?,
-        verdict: Verdict::Done,
-    })
+    give(text, Verdict::Done)
 }
 
 /// The lines of broken evolution rules, `C10 PLACE` each.
-pub fn judge_lines(alloc: Global, rows: &[Broken]) -> Result<String, OutOfMemory>
-    ensures { IfOk result (λ text. string_bytes text ≡ flat_map break_line (map seen rows.now)) }
+pub fn judge_lines(alloc: Global, rows: &[Broken]) -> GrowingText
+    ensures { result.is_whole ≡ true → string_bytes result.text
+        ≡ flat_map break_line (map seen rows.now) }
 {
     let mut text = GrowingText::new(alloc);
     for row in rows {
         push_break(row, &mut text);
     }
-    text.into_string()
+    text
 }
 
 /// Adds the line of a broken evolution rule, `C10 PLACE`.

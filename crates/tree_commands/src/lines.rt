@@ -1,30 +1,25 @@
 //! The printed lines of faults in files: files without tokens, and broken check rules.
-ghost use Rattle.std.specs.Prelude.{◌≡◌, IfOk, string_bytes};
+ghost use Rattle.std.specs.Prelude.{◌≡◌, true, string_bytes};
 ghost use Rattle.std.specs.List.{flat_map};
 ghost use Rattle.growing.specs.Grows.{Grows};
 ghost use Rattle.tree_commands.specs.Lines as meant;
 
 use crate::rule_names::rule_name;
-use aidl_base::{Breach, OutOfMemory, SourceFile};
+use aidl_base::{Breach, SourceFile};
 use growing::GrowingText;
 use std::alloc::Global;
 use tree_files::LexBreach;
 
 /// The lines of files without tokens, among the files of a tree with a root: `PATH:OFFSET: lex NUMBER NAME`.
-pub fn lex_lines(
-    alloc: Global,
-    root: &str,
-    files: &[SourceFile],
-    rows: &[LexBreach],
-) -> Result<String, OutOfMemory>
-    ensures { IfOk result (λ text.
-        string_bytes text ≡ flat_map (meant.lex_line root.now files.now) rows.now) }
+pub fn lex_lines(alloc: Global, root: &str, files: &[SourceFile], rows: &[LexBreach]) -> GrowingText
+    ensures { result.is_whole ≡ true → string_bytes result.text
+        ≡ flat_map (meant.lex_line root.now files.now) rows.now }
 {
     let mut text = GrowingText::new(alloc);
     for row in rows {
         push_lex(root, files, row, &mut text);
     }
-    text.into_string()
+    text
 }
 
 // Adds the line of a file without tokens.
@@ -45,20 +40,15 @@ fn push_lex(root: &str, files: &[SourceFile], row: &LexBreach, text: &mut Growin
 }
 
 /// The lines of broken check rules, among the files of a tree with a root: `PATH:OFFSET: E4 UnknownType`.
-pub fn breach_lines(
-    alloc: Global,
-    root: &str,
-    files: &[SourceFile],
-    rows: &[Breach],
-) -> Result<String, OutOfMemory>
-    ensures { IfOk result (λ text.
-        string_bytes text ≡ flat_map (meant.breach_line root.now files.now) rows.now) }
+pub fn breach_lines(alloc: Global, root: &str, files: &[SourceFile], rows: &[Breach]) -> GrowingText
+    ensures { result.is_whole ≡ true → string_bytes result.text
+        ≡ flat_map (meant.breach_line root.now files.now) rows.now }
 {
     let mut text = GrowingText::new(alloc);
     for row in rows {
         push_breach(root, files, *row, &mut text);
     }
-    text.into_string()
+    text
 }
 
 // Adds the line of a broken rule.

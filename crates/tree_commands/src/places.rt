@@ -1,12 +1,12 @@
 //! The lines of files without a tree, each with the offset of its syntax fault.
-ghost use Rattle.std.specs.Prelude.{◌≡◌, ◌≤◌, length, IfOk, string_bytes};
+ghost use Rattle.std.specs.Prelude.{◌≡◌, ◌≤◌, true, length, string_bytes};
 ghost use Rattle.std.specs.List.{All};
 ghost use Rattle.aidl_syntax.specs.Tokens.{Tokens};
 ghost use Rattle.tree_commands.specs.Faults.{AreSyntaxLines, IsSyntaxLine};
 ghost use Rattle.tree_commands.specs.Lines as meant;
 ghost use Rattle.tree_commands.specs.steps.Adding.{Adds, AddsLine};
 
-use aidl_base::{OutOfMemory, SourceFile};
+use aidl_base::SourceFile;
 use aidl_lexer::lex;
 use aidl_syntax::Token;
 use growing::GrowingText;
@@ -15,21 +15,16 @@ use std::alloc::Global;
 
 /// The lines of the files with these 0-based numbers, for whose tokens no tree stands, among the files of a tree with a root:
 /// `PATH:OFFSET: syntax`.
-pub fn syntax_lines(
-    alloc: Global,
-    root: &str,
-    files: &[SourceFile],
-    numbers: &[u32],
-) -> Result<String, OutOfMemory>
+pub fn syntax_lines(alloc: Global, root: &str, files: &[SourceFile], numbers: &[u32]) -> GrowingText
     requires { All (λ f. length f.bytes ≤ 262144) files.now }
-    ensures { IfOk result (λ text.
-        AreSyntaxLines root.now files.now numbers.now (string_bytes text)) }
+    ensures { result.is_whole ≡ true
+        → AreSyntaxLines root.now files.now numbers.now (string_bytes result.text) }
 {
     let mut text = GrowingText::new(alloc);
     for number in numbers {
         push_line(alloc, root, files, *number, &mut text);
     }
-    text.into_string()
+    text
 }
 
 // Adds the line of the file with a number, which is of at most 262,144 bytes and has tokens: only memory may be wanting where they

@@ -7,58 +7,37 @@ pub fn rule_name(rule: u8) -> &'static str
     ensures { result.now ≡ meant.rule_name rule }
 {
     if rule <= 5 {
-        name_of_names(rule)
+        match rule {
+            1 => "WrongFile",
+            2 => "Duplicate",
+            3 => "UnknownImport",
+            4 => "UnknownType",
+            _ => "LeftOutType",
+        }
     } else if rule <= 12 {
-        name_of_constants(rule)
+        match rule {
+            6 => "Overflow",
+            7 => "DivideByZero",
+            8 => "BadShift",
+            9 => "Mismatch",
+            10 => "Cycle",
+            11 => "UnknownName",
+            _ => "DoesNotFit",
+        }
     } else {
-        name_of_types(rule)
-    }
-}
-
-// E1 to E5.
-fn name_of_names(rule: u8) -> &'static str
-    ensures { result.now ≡ meant.name_of_names rule }
-{
-    match rule {
-        1 => "WrongFile",
-        2 => "Duplicate",
-        3 => "UnknownImport",
-        4 => "UnknownType",
-        _ => "LeftOutType",
-    }
-}
-
-// E6 to E12.
-fn name_of_constants(rule: u8) -> &'static str
-    ensures { result.now ≡ meant.name_of_constants rule }
-{
-    match rule {
-        6 => "Overflow",
-        7 => "DivideByZero",
-        8 => "BadShift",
-        9 => "Mismatch",
-        10 => "Cycle",
-        11 => "UnknownName",
-        _ => "DoesNotFit",
-    }
-}
-
-// E13 to E24.
-fn name_of_types(rule: u8) -> &'static str
-    ensures { result.now ≡ meant.name_of_types rule }
-{
-    match rule {
-        13 => "BadAnnotation",
-        14 => "BadNullable",
-        15 => "BadBacking",
-        16 => "BadShape",
-        17 => "BadDirection",
-        18 => "BadOneway",
-        19 => "BadId",
-        20 => "BadConstant",
-        21 => "BadField",
-        22 => "HoldsItself",
-        23 => "DefaultTooLarge",
-        _ => "NotFixed",
+        match rule {
+            13 => "BadAnnotation",
+            14 => "BadNullable",
+            15 => "BadBacking",
+            16 => "BadShape",
+            17 => "BadDirection",
+            18 => "BadOneway",
+            19 => "BadId",
+            20 => "BadConstant",
+            21 => "BadField",
+            22 => "HoldsItself",
+            23 => "DefaultTooLarge",
+            _ => "NotFixed",
+        }
     }
 }

@@ -15,11 +15,11 @@ pub fn in_order(alloc: Global, count: u32) -> Result<Vec<u32>, OutOfMemory>
         let decimal = number.to_string(alloc)?;
         places.insert(decimal, number)?;
     }
-    listed(alloc, places)
+    values_of(alloc, places)
 }
 
 // The numbers of a map, in its order.
-fn listed(alloc: Global, mut places: BTreeMap<String, u32>) -> Result<Vec<u32>, OutOfMemory>
+fn values_of(alloc: Global, mut places: BTreeMap<String, u32>) -> Result<Vec<u32>, OutOfMemory>
     ensures { IfOk result (λ numbers. numbers.items ≡ map (λ e. e.1) places.entries) }
 {
     let mut numbers = Vec::with_capacity(alloc, places.len())?;

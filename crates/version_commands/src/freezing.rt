@@ -16,7 +16,7 @@ use aidl_outside::{Sink, Store};
 use api_freeze::Frozen;
 use growing::GrowingText;
 use std::alloc::Global;
-use tool_frame::{Early, Exit, Halt, Printed, Verdict, end};
+use tool_frame::{Early, Exit, Halt, Printed, Verdict, end, give};
 use tree_commands::open;
 
 /// Runs `freeze TREE API`. The answer is the exit.
@@ -66,8 +66,5 @@ pub fn freeze_answer(alloc: Global, frozen: &Frozen) -> Result<Printed, Early>
     let hash = frozen.hash.as_str();
     let mut text = GrowingText::new(alloc);
     writeln!(text, "frozen {version} {hash}");
-    Ok(Printed {
-        text: text.into_string()?,
-        verdict: Verdict::Done,
-    })
+    give(text, Verdict::Done)
 }

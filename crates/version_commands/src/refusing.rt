@@ -1,21 +1,26 @@
 //! The printed lines of a refused `freeze`.
-ghost use Rattle.std.specs.Prelude.{◌++◌, codes, decimal};
+ghost use Rattle.std.specs.Prelude.{◌++◌, codes, decimal, map};
+ghost use Rattle.std.specs.List.{flat_map};
 ghost use Rattle.api_freeze.specs.Freeze.{IsRead};
 ghost use Rattle.version_commands.specs.Frozen as meant;
 ghost use Rattle.version_commands.specs.Seen.{Follows};
+ghost use Rattle.compat_judge.specs.Seen.{seen};
 ghost use Rattle.tool_frame.specs.Answer.{line, negative};
+ghost use Rattle.tree_commands.specs.Faults.{refused};
+ghost use Rattle.tree_commands.specs.Judged.{break_line};
 ghost use Rattle.tool_frame.specs.Results.{EndsAs};
 ghost use Rattle.tree_commands.specs.Results as tree;
 ghost use Rattle.type_check.specs.Refusals.{IsRefusal};
 ghost use Rattle.version_commands.specs.Ends.{FreezeEnds};
 
 use crate::unread::versions_refusal;
-use aidl_base::{OutOfMemory, Row, SourceFile};
+use aidl_base::{Row, SourceFile};
 use api_freeze::FreezeFault;
 use api_versions::version_folder;
+use compat_judge::Broken;
 use growing::GrowingText;
 use std::alloc::Global;
-use tool_frame::{Early, Halt, Printed, Verdict, limit_passed};
+use tool_frame::{Early, Halt, Verdict, end_as, limit_passed};
 use tree_commands::{fault_answer, judge_lines};
 use type_check::CheckFault;
 use version_lines::torn_answer;
@@ -40,9 +45,7 @@ pub fn freeze_refusal(alloc: Global, api: &str, fault: FreezeFault) -> Halt
             fault,
         } => Halt::from(unreadable(alloc, api, version, files, fault)),
         FreezeFault::Unchanged { version } => Halt::from(unchanged(alloc, version)),
-        FreezeFault::Incompatible(rows) => {
-            Halt::from(with_lines(judge_lines(alloc, rows.as_slice())))
-        }
+        FreezeFault::Incompatible(rows) => Halt::from(incompatible(alloc, rows.as_slice())),
         FreezeFault::Limit(limit) => Halt::from(limit_passed(alloc, limit)),
         FreezeFault::Write(fault) => Halt::from(fault),
         FreezeFault::OutOfMemory => Halt::OutOfMemory,
@@ -55,20 +58,14 @@ fn unchanged(alloc: Global, version: u32) -> Early
 {
     let mut text = GrowingText::new(alloc);
     writeln!(text, "unchanged {version}");
-    with_lines(text.into_string())
+    end_as(text, Verdict::Negative)
 }
 
-// An end with these lines and exit 1.
-fn with_lines(lines: Result<String, OutOfMemory>) -> Early
-    ensures { tree.EndsWith lines result }
+// The judge's lines.
+fn incompatible(alloc: Global, rows: &[Broken]) -> Early
+    ensures { EndsAs result (refused (flat_map break_line (map seen rows.now))) }
 {
-    match lines {
-        Ok(text) => Early::Answered(Printed {
-            text,
-            verdict: Verdict::Negative,
-        }),
-        Err(_) => Early::OutOfMemory,
-    }
+    end_as(judge_lines(alloc, rows), Verdict::Negative)
 }
 
 // The lines for the latest version, whose files aren't a checked tree.
@@ -102,11 +99,5 @@ fn behind(alloc: Global, version: u32, faults: Early) -> Early
     let mut text = GrowingText::new(alloc);
     writeln!(text, "unreadable {version}");
     text.push_str(faults.text.as_str());
-    match text.into_string() {
-        Ok(text) => Early::Answered(Printed {
-            text,
-            verdict: faults.verdict,
-        }),
-        Err(_) => Early::OutOfMemory,
-    }
+    end_as(text, faults.verdict)
 }

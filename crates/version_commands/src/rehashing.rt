@@ -16,7 +16,7 @@ use aidl_outside::{Sink, Store};
 use api_freeze::RehashFault;
 use growing::GrowingText;
 use std::alloc::Global;
-use tool_frame::{Early, Exit, Halt, Printed, Verdict, end};
+use tool_frame::{Early, Exit, Halt, Printed, Verdict, end, give};
 use version_lines::torn_answer;
 
 /// Runs `rehash API`. The answer is the exit.
@@ -50,10 +50,7 @@ pub fn rehash_answer(alloc: Global, count: usize) -> Result<Printed, Early>
 {
     let mut text = GrowingText::new(alloc);
     writeln!(text, "rehashed {count}");
-    Ok(Printed {
-        text: text.into_string()?,
-        verdict: Verdict::Done,
-    })
+    give(text, Verdict::Done)
 }
 
 /// How `rehash` ends where it refuses: with `bad versions missing N`; `torn N missing HASH` or `torn N kept BYTES HASH`; or a limit. Or a call

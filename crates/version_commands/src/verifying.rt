@@ -15,7 +15,7 @@ use aidl_outside::{Sink, Store};
 use api_versions::{Version, is_whole, versions};
 use growing::GrowingText;
 use std::alloc::Global;
-use tool_frame::{Early, Exit, Halt, Printed, Verdict, end};
+use tool_frame::{Early, Exit, Halt, Printed, Verdict, end, give};
 use version_lines::push_version;
 
 /// Runs `verify API`. The answer is the exit.
@@ -59,8 +59,5 @@ pub fn verify_answer(alloc: Global, versions: &[Version]) -> Result<Printed, Ear
     } else {
         Verdict::Negative
     };
-    Ok(Printed {
-        text: text.into_string()?,
-        verdict,
-    })
+    give(text, verdict)
 }

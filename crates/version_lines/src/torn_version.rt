@@ -6,7 +6,7 @@ use crate::lines::push_torn;
 use aidl_base::{Row, Text};
 use growing::GrowingText;
 use std::alloc::Global;
-use tool_frame::{Early, Printed, Verdict};
+use tool_frame::{Early, Verdict, end_as};
 
 /// The line for a version that isn't whole, by what its `.hash` keeps and the text that it is to have.
 pub fn torn_answer(alloc: Global, version: u32, kept: &Option<Row<u8>>, defined: &Text) -> Early
@@ -16,11 +16,5 @@ pub fn torn_answer(alloc: Global, version: u32, kept: &Option<Row<u8>>, defined:
     write!(text, "torn {version} ");
     push_torn(alloc, kept, defined.as_str().as_bytes(), &mut text);
     text.push_str("\n");
-    match text.into_string() {
-        Ok(text) => Early::Answered(Printed {
-            text,
-            verdict: Verdict::Negative,
-        }),
-        Err(_) => Early::OutOfMemory,
-    }
+    end_as(text, Verdict::Negative)
 }

@@ -4,7 +4,7 @@ ghost use Rattle.version_lines.specs.Lines as meant;
 
 use growing::GrowingText;
 use std::alloc::Global;
-use tool_frame::{Early, Printed, Verdict};
+use tool_frame::{Early, Verdict, end_as};
 
 /// The line for version numbers that aren't 1 to n: the least that is missing.
 pub fn bad_versions(alloc: Global, missing: u32) -> Early
@@ -12,11 +12,5 @@ pub fn bad_versions(alloc: Global, missing: u32) -> Early
 {
     let mut text = GrowingText::new(alloc);
     writeln!(text, "bad versions missing {missing}");
-    match text.into_string() {
-        Ok(text) => Early::Answered(Printed {
-            text,
-            verdict: Verdict::Negative,
-        }),
-        Err(_) => Early::OutOfMemory,
-    }
+    end_as(text, Verdict::Negative)
 }

@@ -1,14 +1,12 @@
 -- What the steps of a run give.
-use Rattle.std.specs.Prelude.{Bool, List, Option, Some, None, Result, Ok, Err}
+use Rattle.std.specs.Prelude.{Bool, List, Option, Result, Ok, Err}
 use Rattle.aidl_outside.specs.Faults.{LinkFaults}
 use Rattle.aidl_outside.specs.declared.link.Carried.{Carried}
 use Rattle.make_command.specs.Tally.{Counts}
 use Rattle.tool_frame.specs.declared.exit.Exit.{Exit}
-use Rattle.tool_frame.specs.declared.printed.Printed.{Printed}
-use Rattle.tool_frame.specs.Course.{Course, at_once}
+use Rattle.tool_frame.specs.Course.{Course}
 use Rattle.tool_frame.specs.Courses.{RanCourse, Went}
 use Rattle.tool_frame.specs.Exit.{number_of}
-use Rattle.tool_frame.specs.Results.{printed}
 use Rattle.tool_frame.specs.Seen.{Seen}
 
 -- one part of a course went well, up to what comes of the counts, or the run ended in it
@@ -20,8 +18,3 @@ CountsTo course next before now (Err exit) = RanCourse course before now (number
 abbrev pub with_link : {L : Type 0} → (L → Option (List Carried)) → (L → Bool) → (L → LinkFaults) → Seen → L → Seen
 with_link log is_faithful link_faults others link =
     record others { log = log link; is_faithful = is_faithful link; link_faults = link_faults link }
-
--- what is printed at once, or else the calls
-abbrev pub course_by : Option Printed → Course → Course
-course_by None calls = calls
-course_by (Some p) calls = at_once (printed p)

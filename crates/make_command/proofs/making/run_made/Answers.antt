@@ -3,7 +3,7 @@ use Rattle.aidl_schema.specs.Broken.{broken}
 use Rattle.aidl_schema.specs.declared.schema.Decl.{Decl}
 use Rattle.make_command.specs.Making.{by_breaks, counted_course, made, make_course}
 use Rattle.make_command.specs.Tally.{nothing}
-use Rattle.make_command.specs.steps.Steps.{course_by}
+use Rattle.run_command.specs.steps.Steps.{course_by}
 use Rattle.run_command.specs.CallLines.{lines_of}
 use Rattle.tool_frame.specs.Course.{Course, at_once}
 use Rattle.tool_frame.specs.Courses.{RanCourse, seen_alone}

@@ -1,5 +1,5 @@
 use Rattle.std.specs.Prelude.{◌≡◌, ◌==◌, find}
-use Rattle.ask_command.proofs.version.first_numbered.Given as goal
+use Rattle.ask_command.proofs.version.version_numbered.Given as goal
 
 -- what is found among those that are left is what is found among all
 abbrev pub invariant-loop-version : goal.invariant-loop-version
