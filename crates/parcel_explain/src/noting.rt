@@ -3,9 +3,9 @@ ghost use Rattle.std.specs.Prelude.{◌≡◌, ◌∷◌, ◌++◌, ◌^◌, ◌
 ghost use Rattle.parcel_explain.specs.steps.Notes.{IsWrong, unplaced, unplaced_some};
 
 use crate::item::{Item, ItemKind};
+use crate::paths::Spot;
 use aidl_base::{OutOfMemory, Row, Text};
 use parcel_words::ReadFault;
-use std::alloc::Global;
 
 /// Why no further items are noted.
 #[derive(Drop)]
@@ -28,16 +28,15 @@ impl From<OutOfMemory> for Stopped {
 
 /// Adds an item of so many bytes behind the others. Its offset is set once all items are known. It answers only want of memory.
 pub fn push(
-    alloc: Global,
-    path: &Text,
+    spot: &Spot<'_>,
     kind: ItemKind,
     length: usize,
     items: &mut Row<Item>,
 ) -> Result<(), OutOfMemory>
     requires { length < 2 ^ 32 }
-    ensures { OnOk result (items.new ≡ items.old ++ unplaced path.now kind length ∷ []) }
+    ensures { OnOk result (items.new ≡ items.old ++ unplaced spot.now.path.now kind length ∷ []) }
 {
-    let path = path.try_clone(alloc)?;
+    let path = spot.path.try_clone(spot.alloc)?;
     push_with(path, kind, length, items)
 }
 
@@ -61,10 +60,10 @@ pub fn push_with(
 }
 
 /// Why noting ends at a value whose item can't be read: the value's path, and the status of the fault. It takes memory for the path.
-pub fn stop_at(alloc: Global, path: &Text, fault: ReadFault) -> Stopped
-    ensures { IsWrong path.now fault result }
+pub fn stop_at(spot: &Spot<'_>, fault: ReadFault) -> Stopped
+    ensures { IsWrong spot.now.path.now fault result }
 {
-    match path.try_clone(alloc) {
+    match spot.path.try_clone(spot.alloc) {
         Ok(path) => stop_with(path, fault),
         Err(_) => Stopped::OutOfMemory,
     }
@@ -82,17 +81,16 @@ pub fn stop_with(path: Text, fault: ReadFault) -> Stopped
 
 /// Adds an item of so many bytes behind the others, and none of no bytes. It answers only want of memory.
 pub fn push_some(
-    alloc: Global,
-    path: &Text,
+    spot: &Spot<'_>,
     kind: ItemKind,
     length: usize,
     items: &mut Row<Item>,
 ) -> Result<(), OutOfMemory>
     requires { length < 2 ^ 32 }
-    ensures { OnOk result (items.new ≡ items.old ++ unplaced_some path.now kind length) }
+    ensures { OnOk result (items.new ≡ items.old ++ unplaced_some spot.now.path.now kind length) }
 {
     if length == 0 {
         return Ok(());
     }
-    push(alloc, path, kind, length, items)
+    push(spot, kind, length, items)
 }

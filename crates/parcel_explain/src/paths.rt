@@ -13,9 +13,10 @@ use std::alloc::Global;
 // The most digits of a position, since a count is below 2^31.
 const MOST_DIGITS: usize = 10;
 
-/// Where a value stands: the schema that its type is of, its path, and how many composite levels are left for it.
+/// Where a value stands: the schema that its type is of, its path, and how many composite levels are left for it; and what gives memory.
 #[derive(Clone, Copy)]
 pub struct Spot<'a> {
+    pub alloc: Global,
     pub schema: &'a Schema,
     pub path: &'a Text,
     pub levels: usize,

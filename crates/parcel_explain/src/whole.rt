@@ -1,10 +1,9 @@
 //! The items of a whole parcel, each with its offset.
 ghost use Rattle.std.specs.Prelude.{◌≡◌, ◌≤◌, ◌-◌, ◌∷◌, ◌++◌, [], length, IfOk, OnOk};
-ghost use Rattle.aidl_base.specs.declared.profile.Profile.TheVariants.{Strict};
 ghost use Rattle.parcel_words.specs.Place.{left, MovesOn};
 ghost use Rattle.parcel_explain.specs.Items as meant;
 ghost use Rattle.parcel_explain.specs.declared.item.ItemKind.TheVariants as kind;
-ghost use Rattle.parcel_explain.specs.steps.Notes.{Tells, done};
+ghost use Rattle.parcel_explain.specs.steps.Notes.{MayNote, Tells, done};
 ghost use Rattle.parcel_explain.specs.steps.Offsets.{at_offsets, some_at, total};
 
 use crate::item::{Item, ItemKind};
@@ -45,8 +44,7 @@ fn values_items(
     from: &mut WordReader,
     items: &mut Row<Item>,
 ) -> Result<(), Stopped>
-    requires strict { from.old.profile ≡ Strict }
-    requires small { length from.old.bytes ≤ 1048576 }
+    requires reader { MayNote from.old }
     requires outside { from.old.ends ≡ [] }
     ensures told { Tells done result (meant.values_items schema.now.decls 0 types.now
         (left from.old)) (left from.new) items.old items.new }
@@ -56,11 +54,12 @@ fn values_items(
     for index in 0..types.len() {
         let below = below_index(alloc, &root, index)?;
         let spot = Spot {
+            alloc,
             schema,
             path: &below,
             levels: 64,
         };
-        value_items(alloc, types[index], &spot, from, items)?;
+        value_items(&spot, types[index], from, items)?;
     }
     Ok(())
 }

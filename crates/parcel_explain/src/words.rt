@@ -6,11 +6,11 @@ ghost use Rattle.parcel_words.specs.Place.{left, is_inside, MovesOn};
 ghost use Rattle.parcel_explain.specs.Items.{block_item, bytes_item, elements_items, text_items, value_item};
 ghost use Rattle.parcel_explain.specs.Noted.{item};
 ghost use Rattle.parcel_explain.specs.declared.item.ItemKind.TheVariants as kind;
-ghost use Rattle.parcel_explain.specs.steps.Notes.{Tells, done};
+ghost use Rattle.parcel_explain.specs.steps.Notes.{MayNote, Tells, done};
 
 use crate::item::{Item, ItemKind};
 use crate::noting::{Stopped, push, push_some, push_with, stop_at, stop_with};
-use crate::paths::{element_path, stem_of};
+use crate::paths::{Spot, element_path, stem_of};
 use aidl_base::{Row, Text};
 use itoa::Buffer;
 use parcel_words::{Wire, WordReader};
@@ -18,18 +18,17 @@ use std::alloc::Global;
 
 /// Notes the item of a word or a long.
 pub fn word_item<W: Wire>(
-    alloc: Global,
-    path: &Text,
+    spot: &Spot<'_>,
     from: &mut WordReader,
     items: &mut Row<Item>,
 ) -> Result<(), Stopped>
     requires small { length from.old.bytes ≤ 1048576 }
-    ensures told { Tells done result (value_item path.now (λ c. W.reading from.old.profile
+    ensures told { Tells done result (value_item spot.now.path.now (λ c. W.reading from.old.profile
         (is_inside from.old) c) (left from.old)) (left from.new) items.old items.new }
     ensures on { OnOk result (MovesOn from.old from.new) }
 {
-    let path = path.try_clone(alloc)?;
-    word_with::<W>(alloc, path, from, items)
+    let path = spot.path.try_clone(spot.alloc)?;
+    word_with::<W>(spot.alloc, path, from, items)
 }
 
 // The same with a path that becomes the item's.
@@ -53,24 +52,22 @@ fn word_with<W: Wire>(
 
 /// Notes the items of so many words or longs, the elements of a value at this path.
 pub fn words_items<W: Wire>(
-    alloc: Global,
+    spot: &Spot<'_>,
     count: usize,
-    path: &Text,
     from: &mut WordReader,
     items: &mut Row<Item>,
 ) -> Result<(), Stopped>
-    requires strict { from.old.profile ≡ Strict }
-    requires small { length from.old.bytes ≤ 1048576 }
+    requires reader { MayNote from.old }
     ensures told { Tells done result (elements_items (λ q b. value_item q (λ c. W.reading Strict
-        (is_inside from.old) c) b) path.now 0 count (left from.old))
+        (is_inside from.old) c) b) spot.now.path.now 0 count (left from.old))
         (left from.new) items.old items.new }
     ensures on { OnOk result (MovesOn from.old from.new) }
 {
     let mut digits = Buffer::new();
-    let mut stem = stem_of(alloc, path)?;
+    let mut stem = stem_of(spot.alloc, spot.path)?;
     for index in 0..count {
-        let below = element_path(alloc, &mut stem, &mut digits, index)?;
-        word_with::<W>(alloc, below, from, items)?;
+        let below = element_path(spot.alloc, &mut stem, &mut digits, index)?;
+        word_with::<W>(spot.alloc, below, from, items)?;
     }
     Ok(())
 }
@@ -78,34 +75,31 @@ pub fn words_items<W: Wire>(
 /// Notes the items of a String: its count, and its block where it isn't null.
 #[tactic(auto, unfolding(crate::specs::Items::text_items))]
 pub fn text_items(
-    alloc: Global,
+    spot: &Spot<'_>,
     nullable: bool,
-    path: &Text,
     from: &mut WordReader,
     items: &mut Row<Item>,
 ) -> Result<(), Stopped>
-    requires strict { from.old.profile ≡ Strict }
-    requires small { length from.old.bytes ≤ 1048576 }
-    ensures told { Tells done result (text_items nullable path.now
+    requires reader { MayNote from.old }
+    ensures told { Tells done result (text_items nullable spot.now.path.now
         (is_inside from.old) (left from.old)) (left from.new) items.old items.new }
     ensures on { OnOk result (MovesOn from.old from.new) }
 {
-    match count_item(alloc, nullable, path, from, items)? {
-        Some(units) => block_item(alloc, units, path, from, items),
+    match count_item(spot, nullable, from, items)? {
+        Some(units) => block_item(spot, units, from, items),
         None => Ok(()),
     }
 }
 
 // Notes the count of a String and answers its units, or None for null.
 fn count_item(
-    alloc: Global,
+    spot: &Spot<'_>,
     nullable: bool,
-    path: &Text,
     from: &mut WordReader,
     items: &mut Row<Item>,
 ) -> Result<Option<usize>, Stopped>
     requires small { length from.old.bytes ≤ 1048576 }
-    ensures told { Tells (λ n. n) result (item path.now kind.Count (λ c. count_at nullable
+    ensures told { Tells (λ n. n) result (item spot.now.path.now kind.Count (λ c. count_at nullable
         (is_inside from.old) c) (left from.old)) (left from.new) items.old items.new }
     ensures few { IfOk result (λ n. IfSome n (λ units. units < 2 ^ 31)) }
     ensures on { OnOk result (MovesOn from.old from.new) }
@@ -113,52 +107,48 @@ fn count_item(
     let start = from.position();
     match from.count(nullable) {
         Ok(count) => {
-            push(alloc, path, ItemKind::Count, from.position() - start, items)?;
+            push(spot, ItemKind::Count, from.position() - start, items)?;
             Ok(count)
         }
-        Err(fault) => Err(stop_at(alloc, path, fault)),
+        Err(fault) => Err(stop_at(spot, fault)),
     }
 }
 
 // Notes the block of a text of so many UTF-16 units.
 fn block_item(
-    alloc: Global,
+    spot: &Spot<'_>,
     units: usize,
-    path: &Text,
     from: &mut WordReader,
     items: &mut Row<Item>,
 ) -> Result<(), Stopped>
-    requires strict { from.old.profile ≡ Strict }
-    requires small { length from.old.bytes ≤ 1048576 }
+    requires reader { MayNote from.old }
     requires few { units < 2 ^ 31 }
-    ensures told { Tells done result (block_item path.now
+    ensures told { Tells done result (block_item spot.now.path.now
         (is_inside from.old) (Some units) (left from.old)) (left from.new) items.old items.new }
     ensures on { OnOk result (MovesOn from.old from.new) }
 {
     let start = from.position();
-    match from.block(alloc, units) {
-        Ok(_) => Ok(push(alloc, path, ItemKind::Block, from.position() - start, items)?),
-        Err(fault) => Err(stop_at(alloc, path, fault)),
+    match from.block(spot.alloc, units) {
+        Ok(_) => Ok(push(spot, ItemKind::Block, from.position() - start, items)?),
+        Err(fault) => Err(stop_at(spot, fault)),
     }
 }
 
 /// Notes so many raw bytes and their padding as one item; none is noted of no bytes.
 pub fn bytes_item(
-    alloc: Global,
+    spot: &Spot<'_>,
     count: usize,
-    path: &Text,
     from: &mut WordReader,
     items: &mut Row<Item>,
 ) -> Result<(), Stopped>
-    requires strict { from.old.profile ≡ Strict }
-    requires small { length from.old.bytes ≤ 1048576 }
-    ensures told { Tells done result (bytes_item path.now (left from.old) (raw_at Strict count
+    requires reader { MayNote from.old }
+    ensures told { Tells done result (bytes_item spot.now.path.now (left from.old) (raw_at Strict count
         (is_inside from.old) (left from.old))) (left from.new) items.old items.new }
     ensures on { OnOk result (MovesOn from.old from.new) }
 {
     let start = from.position();
     match from.raw(count) {
-        Ok(_) => Ok(push_some(alloc, path, ItemKind::Bytes, from.position() - start, items)?),
-        Err(fault) => Err(stop_at(alloc, path, fault)),
+        Ok(_) => Ok(push_some(spot, ItemKind::Bytes, from.position() - start, items)?),
+        Err(fault) => Err(stop_at(spot, fault)),
     }
 }

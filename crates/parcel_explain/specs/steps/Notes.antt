@@ -1,9 +1,10 @@
 -- What the steps of the noting of items give.
-use Rattle.std.specs.Prelude.{◌≡◌, ℕ, zero, suc, ℤ, Bool, List, [], ◌∷◌, ◌++◌, length, map, Some, IfSome, Result}
+use Rattle.std.specs.Prelude.{◌≡◌, ◌≤◌, ℕ, zero, suc, Bool, List, [], ◌∷◌, ◌++◌, length, map, Some, Result}
 use Rattle.std.specs.Prelude.{Ok, Err}
-use Rattle.std.specs.Borrow.{Bor}
+use Rattle.aidl_base.specs.declared.profile.Profile.TheVariants.{Strict}
 use Rattle.aidl_schema.specs.declared.schema.AidlType.{AidlType}
 use Rattle.aidl_schema.specs.declared.schema.Decl.{Decl}
+use Rattle.parcel_words.specs.Place.{Place}
 use Rattle.parcel_words.specs.Taken.{status_of}
 use Rattle.parcel_words.specs.declared.fault.ReadFault.{ReadFault}
 use Rattle.parcel_explain.specs.declared.item.Item.{Item}
@@ -46,6 +47,10 @@ Adds (Err stopped.OutOfMemory) noted before now = Unit {0}
 abbrev pub Tells : {T A : Type 0} → (T → A) → Result T Stopped → Noted A → List ℕ → List Item → List Item → Type 0
 Tells seen result noted rest before now = Finds seen result noted rest × Adds result noted before now
 
+-- where items are noted: the strict profile reads at most 1,048,576 bytes
+abbrev pub MayNote : Place → Type 0
+MayNote p = (p.profile ≡ Strict) × (length p.bytes ≤ 1048576)
+
 -- nothing but that it is there
 abbrev pub done : Unit {0} → Unit {0}
 done u = tt
@@ -54,8 +59,3 @@ done u = tt
 abbrev pub part_items : List Decl → ℕ → AidlType → List ℕ → Bool → List ℕ → Notes
 part_items S zero u path inside b = no_items path
 part_items S (suc d) u path inside b = items_of S d u path inside b
-
--- what was looked up, or the status
-abbrev pub Gives : {A : Type 0} → Result A ℤ → Result (Bor A) ReadFault → Type 0
-Gives found (Ok x) = found ≡ Ok x.now
-Gives found (Err fault) = IfSome (status_of fault) (λ s. found ≡ Err s)

@@ -19,14 +19,14 @@ returns-in_err-word_with-clause-told g c =
     let l = c.loop-index in
     let reading = g.W.Wire.reading in
     let inside : is_inside l.from ≡ is_inside p = ap is_inside l.invariant.on in
-    let strict : l.from.profile ≡ Strict = ap (λ (r : Place). r.profile) l.invariant.on ∙ c.requires.strict in
+    let strict : l.from.profile ≡ Strict = ap (λ (r : Place). r.profile) l.invariant.on ∙ c.requires.reader.0 in
     let q = err_from_is_err_and c.from_residual-in_err-word_with.result c.from_residual-in_err-word_with.ensures.1 in
     let stop = c.in_err-word_with.field-0.0 in
     let end = left c.word_with.new.from in
-    let path = stem_below c.args.path.now (string_bytes l.stem) (decimal l.index) c.in_ok-below.below l.invariant.stem c.in_ok-below.ensures.made in
+    let path = stem_below c.args.spot.now.path.now (string_bytes l.stem) (decimal l.index) c.in_ok-below.below l.invariant.stem c.in_ok-below.ensures.made in
     let told = subst (λ x. Tells {T = Unit {0}} done (Err stop) x end l.items c.word_with.new.items)
-    (word_here reading c.in_ok-below.below (below c.args.path.now (decimal l.index)) l.from.profile Strict (is_inside l.from) (is_inside p) (left l.from) path strict inside) c.in_err-word_with.ensures.told in
-    rw (q.1, q.2) (elements_end (λ r b. value_item r (λ e. reading Strict (is_inside p) e) b) c.args.path.now _ l.invariant.told.0 l.index c.args.count (left l.from) l.invariant.told.1
+    (word_here reading c.in_ok-below.below (below c.args.spot.now.path.now (decimal l.index)) l.from.profile Strict (is_inside l.from) (is_inside p) (left l.from) path strict inside) c.in_err-word_with.ensures.told in
+    rw (q.1, q.2) (elements_end (λ r b. value_item r (λ e. reading Strict (is_inside p) e) b) c.args.spot.now.path.now _ l.invariant.told.0 l.index c.args.count (left l.from) l.invariant.told.1
     c.loop-index-test.true c.args.items.now l.items l.invariant.told.2 stop end c.word_with.new.items told)
 
 pub loop-index-preserved : goal.loop-index-preserved
@@ -35,13 +35,13 @@ loop-index-preserved g c =
     let l = c.loop-index in
     let reading = g.W.Wire.reading in
     let inside : is_inside l.from ≡ is_inside p = ap is_inside l.invariant.on in
-    let strict : l.from.profile ≡ Strict = ap (λ (r : Place). r.profile) l.invariant.on ∙ c.requires.strict in
+    let strict : l.from.profile ≡ Strict = ap (λ (r : Place). r.profile) l.invariant.on ∙ c.requires.reader.0 in
     let end = left c.word_with.new.from in
-    let path = stem_below c.args.path.now (string_bytes l.stem) (decimal l.index) c.in_ok-below.below l.invariant.stem c.in_ok-below.ensures.made in
+    let path = stem_below c.args.spot.now.path.now (string_bytes l.stem) (decimal l.index) c.in_ok-below.below l.invariant.stem c.in_ok-below.ensures.made in
     let told = subst (λ x. Tells done (Ok tt) x end l.items c.word_with.new.items)
-    (word_here reading c.in_ok-below.below (below c.args.path.now (decimal l.index)) l.from.profile Strict (is_inside l.from) (is_inside p) (left l.from) path strict inside) c.in_ok-word_with.ensures.told in
+    (word_here reading c.in_ok-below.below (below c.args.spot.now.path.now (decimal l.index)) l.from.profile Strict (is_inside l.from) (is_inside p) (left l.from) path strict inside) c.in_ok-word_with.ensures.told in
     record {
-      told = elements_next (λ r b. value_item r (λ e. reading Strict (is_inside p) e) b) c.args.path.now _ l.invariant.told.0 l.index c.args.count (left l.from) l.invariant.told.1
+      told = elements_next (λ r b. value_item r (λ e. reading Strict (is_inside p) e) b) c.args.spot.now.path.now _ l.invariant.told.0 l.index c.args.count (left l.from) l.invariant.told.1
           c.loop-index-test.true c.args.items.now l.items l.invariant.told.2 end c.word_with.new.items told;
       on = on_and_on p l.from c.word_with.new.from l.invariant.on c.in_ok-word_with.ensures.on;
       stem = ap chars c.in_ok-below.ensures.same ∙ l.invariant.stem;

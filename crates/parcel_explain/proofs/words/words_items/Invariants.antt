@@ -12,9 +12,9 @@ use Rattle.parcel_explain.proofs.words.words_items.Given as goal
 abbrev pub invariant-loop-index : goal.invariant-loop-index
 invariant-loop-index g l = record {
   told : (ps : List Part)
-      × (behind ps (elements_items (λ q b. value_item q (λ c. g.W.Wire.reading Strict (is_inside l.initial.from) c) b) l.path l.index (l.count - l.index) (left l.from))
-      ≡ elements_items (λ q b. value_item q (λ c. g.W.Wire.reading Strict (is_inside l.initial.from) c) b) l.path 0 l.count (left l.initial.from))
+      × (behind ps (elements_items (λ q b. value_item q (λ c. g.W.Wire.reading Strict (is_inside l.initial.from) c) b) l.spot.path.now l.index (l.count - l.index) (left l.from))
+      ≡ elements_items (λ q b. value_item q (λ c. g.W.Wire.reading Strict (is_inside l.initial.from) c) b) l.spot.path.now 0 l.count (left l.initial.from))
       × (l.items ≡ l.initial.items ++ of_parts ps);
   on : MovesOn l.initial.from l.from;
-  stem : IsStem l.path (string_bytes l.stem);
+  stem : IsStem l.spot.path.now (string_bytes l.stem);
 }
