@@ -9,7 +9,6 @@ use crate::outcome::Outcome;
 use crate::settled::{InitId, Settled};
 use aidl_base::{Breach, OutOfMemory, Row};
 use const_items::ItemRef;
-use const_values::ConstFault;
 use std::alloc::Global;
 
 /// The breaches of E6 to E12: one for each item whose outcome is a fault, at the item's place, in the order of files and places.
@@ -34,18 +33,12 @@ fn add_breach(
         ≡ rows.old ++ option_to_list (meant.breach_by (item_of item.now) outcome.now)) }
 {
     match outcome {
-        Outcome::Fault(fault) => rows.push(breach_of(item, *fault)),
+        Outcome::Fault(fault) => rows.push(Breach {
+            rule: fault.number() + 5,
+            file: item.file,
+            offset: item.place,
+        }),
         Outcome::Given(_) => Ok(()),
         Outcome::Unjudged => Ok(()),
-    }
-}
-
-fn breach_of(item: &ItemRef<'_>, fault: ConstFault) -> Breach
-    ensures { result ≡ meant.breach_of (item_of item.now) fault }
-{
-    Breach {
-        rule: fault.number() + 5,
-        file: item.file,
-        offset: item.place,
     }
 }

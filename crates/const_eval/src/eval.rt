@@ -1,5 +1,5 @@
 //! The evaluation of all items of a tree, each that is on no cycle behind those that it depends on.
-ghost use Rattle.std.specs.Prelude.{◌≡◌, ◌<◌, ◌≤◌, ℕ, false, length, map, IfOk, IsTrue, Contains};
+ghost use Rattle.std.specs.Prelude.{◌≡◌, ◌<◌, ℕ, false, length, map, IfOk, IsTrue, Contains};
 ghost use Rattle.std.specs.List.{All};
 ghost use Rattle.graph_cycles.specs.Paths.{TellsCycles, flag, targets};
 ghost use Rattle.aidl_syntax.specs.Sources.{source_of};
@@ -19,7 +19,7 @@ use crate::settled::Settled;
 use crate::tree::TreeItems;
 use aidl_base::{OutOfMemory, Row};
 use aidl_names::Names;
-use const_items::{Dependence, ItemRef, dependence_of, law_count, number_items};
+use const_items::{Dependence, ItemRef, dependence_of, number_items};
 use const_values::{ConstFault, EvalFault};
 use graph_cycles::{find_cycles, is_set, targets_of};
 use std::alloc::Global;
@@ -32,7 +32,6 @@ pub fn eval_all<'a>(alloc: Global, names: &Names<'a>) -> Result<Settled<'a>, Out
     ensures outcomes { IfOk result (λ settled. AreOutcomes
         (map source_of names.now) settled.outcomes.items) }
 {
-    law_count(names);
     let items = number_items(alloc, names)?;
     let tree = TreeItems {
         names,
@@ -43,7 +42,6 @@ pub fn eval_all<'a>(alloc: Global, names: &Names<'a>) -> Result<Settled<'a>, Out
 }
 
 fn outcomes(alloc: Global, tree: &TreeItems<'_>) -> Result<Vec<Outcome>, OutOfMemory>
-    requires count { length tree.now.items.now.list.items ≤ 4294967296 }
     requires all { HasItems tree.now }
     ensures { IfOk result (λ outcomes. AreOutcomes (files_of tree.now) outcomes.items) }
 {

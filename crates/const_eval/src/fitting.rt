@@ -2,7 +2,6 @@
 ghost use Rattle.std.specs.Prelude.{◌≡◌, ◌<◌, ◌^◌, IfOk, IsTrue};
 ghost use Rattle.const_values.specs.Seen.{Answers, seen};
 ghost use Rattle.const_values.specs.Wanted as meant;
-ghost use Rattle.const_values.specs.Operands as operand;
 ghost use Rattle.const_eval.specs.Held.{is_held};
 
 use aidl_base::Const;
@@ -20,23 +19,11 @@ pub fn fit_value(
     ensures held { IfOk result (λ c. IsTrue (is_held wanted c)) }
 {
     match operand {
-        Operand::Character(code) => held_code(alloc, wanted, named, code),
+        Operand::Character(code) => fit(alloc, wanted, named, Operand::Character(code)),
         Operand::Truth(b) => fit(alloc, wanted, named, Operand::Truth(b)),
         Operand::Number { width, value } => {
             fit(alloc, wanted, named, Operand::Number { width, value })
         }
         Operand::Text(words) => fit(alloc, wanted, named, Operand::Text(words)),
     }
-}
-
-fn held_code(
-    alloc: Global,
-    wanted: Wanted,
-    named: Option<u32>,
-    code: u32,
-) -> Result<Const, EvalFault>
-    ensures value { Answers (λ c. c) result (meant.fitted wanted named (operand.character code)) }
-    ensures held { IfOk result (λ c. IsTrue (is_held wanted c)) }
-{
-    fit(alloc, wanted, named, Operand::Character(code))
 }

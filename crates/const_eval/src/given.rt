@@ -36,17 +36,9 @@ fn is_given(outcomes: &[Outcome], number: usize) -> bool
     ensures { result ≡ is_given (outcome_at outcomes.now number) }
 {
     match outcomes.get(number) {
-        Some(outcome) => has_value(outcome),
+        Some(Outcome::Given(_)) => true,
+        Some(Outcome::Fault(_)) => false,
+        Some(Outcome::Unjudged) => false,
         None => false,
-    }
-}
-
-fn has_value(outcome: &Outcome) -> bool
-    ensures { result ≡ is_given outcome.now }
-{
-    match outcome {
-        Outcome::Given(_) => true,
-        Outcome::Fault(_) => false,
-        Outcome::Unjudged => false,
     }
 }

@@ -5,7 +5,7 @@ ghost use Rattle.const_values.specs.Operands.{IsWithin};
 ghost use Rattle.const_values.specs.Seen.{answer, seen};
 ghost use Rattle.const_eval.specs.Held.{is_held_outcome};
 ghost use Rattle.const_items.specs.ItemViews.{item_of};
-ghost use Rattle.const_eval.specs.Known.{AreHeld, value_of, values_in};
+ghost use Rattle.const_eval.specs.Known.{AreHeld, values_in};
 ghost use Rattle.const_eval.specs.Outcomes as meant;
 ghost use Rattle.const_eval.specs.Outcomes.{outcome_at, wanted_of};
 ghost use Rattle.const_eval.specs.TreeViews.{HasItems, items_of};
@@ -94,6 +94,7 @@ fn operand_at<'a>(
     }
 }
 
+// The operand of a value; of what has none nothing is asked.
 fn operand_for(
     wanted: Wanted,
     outcomes: &[Outcome],
@@ -104,21 +105,10 @@ fn operand_for(
     ensures within { IfOk result (λ operand. IsWithin (seen operand)) }
 {
     match outcomes.get(number) {
-        Some(outcome) => operand_of_outcome(wanted, outcome),
+        Some(Outcome::Given(value)) => operand_of(wanted, value),
+        Some(Outcome::Fault(_)) => Err(ConstFault::Mismatch),
+        Some(Outcome::Unjudged) => Err(ConstFault::Mismatch),
         None => Err(ConstFault::Mismatch),
-    }
-}
-
-// The operand of a value; of what has none nothing is asked.
-fn operand_of_outcome(wanted: Wanted, outcome: &Outcome) -> Result<Operand<'_>, ConstFault>
-    requires { IsTrue (is_held_outcome wanted outcome.now) }
-    ensures value { answer result ≡ meant.operand_of wanted (value_of outcome.now) }
-    ensures within { IfOk result (λ operand. IsWithin (seen operand)) }
-{
-    match outcome {
-        Outcome::Given(value) => operand_of(wanted, value),
-        Outcome::Fault(_) => Err(ConstFault::Mismatch),
-        Outcome::Unjudged => Err(ConstFault::Mismatch),
     }
 }
 

@@ -38,7 +38,8 @@ fn of_number<'a>(wanted: Wanted, value: i64) -> Result<Operand<'a>, ConstFault>
     }
 }
 
-fn number<'a>(width: Width, value: i64) -> Operand<'a>
+/// A number of a width.
+pub fn number<'a>(width: Width, value: i64) -> Operand<'a>
     ensures { seen result ≡ operand.number width value }
 {
     Operand::Number { width, value }

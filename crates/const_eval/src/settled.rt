@@ -1,5 +1,5 @@
 //! The items of a tree with their outcomes, once all are found.
-ghost use Rattle.std.specs.Prelude.{◌≡◌, ◌<◌, ◌≤◌, length, map, vec_len, IfSome};
+ghost use Rattle.std.specs.Prelude.{◌≡◌, ◌<◌, length, map, vec_len, IfSome};
 ghost use Rattle.std.specs.Option.{option_map};
 ghost use Rattle.const_items.specs.Items as meant;
 ghost use Rattle.const_items.specs.ItemViews.{item_of};
@@ -19,14 +19,12 @@ pub struct Settled<'a> {
     items: Items<'a>,
     outcomes: Vec<Outcome>,
     ghost len: { vec_len outcomes ≡ length items.list.items },
-    ghost count: { length items.list.items ≤ 4294967296 },
 }
 
 impl<'a> Settled<'a> {
     // Of items with an outcome each.
     pub(crate) fn new(items: Items<'a>, outcomes: Vec<Outcome>) -> Settled<'a>
-        requires len { vec_len outcomes ≡ length items.list.items }
-        requires count { length items.list.items ≤ 4294967296 }
+        requires { vec_len outcomes ≡ length items.list.items }
         ensures items { result.items ≡ items.entry }
         ensures outcomes { result.outcomes ≡ outcomes }
     {

@@ -2,17 +2,18 @@
 ghost use Rattle.std.specs.Prelude.{◌≡◌, None, pos, ◌+ℤ◌, IfOk, IsTrue, Err};
 ghost use Rattle.aidl_base.specs.declared.constant.Const.{out-Const};
 ghost use Rattle.const_values.specs.Operands as operand;
-ghost use Rattle.const_values.specs.Seen.{Answers, seen};
+ghost use Rattle.const_values.specs.Seen.{Answers};
 ghost use Rattle.const_values.specs.Wanted.{fitted};
 ghost use Rattle.const_values.specs.declared.width.Width.TheVariants.{Narrow, Wide};
 ghost use Rattle.const_eval.specs.Held.{is_held};
 ghost use Rattle.const_eval.specs.Outcomes as meant;
-ghost use Rattle.const_eval.specs.Known.{value_of, values_in};
+ghost use Rattle.const_eval.specs.Known.{values_in};
 
 use crate::fitting::fit_value;
+use crate::operands::number;
 use crate::outcome::Outcome;
 use aidl_base::Const;
-use const_values::{ConstFault, EvalFault, Operand, Wanted, Width};
+use const_values::{ConstFault, EvalFault, Wanted, Width};
 use std::alloc::Global;
 
 /// The value of an enumerator without an expression that is the first of its enum.
@@ -52,12 +53,6 @@ fn above(alloc: Global, wanted: Wanted, value: i64) -> Result<Const, EvalFault>
     }
 }
 
-fn number<'a>(width: Width, value: i64) -> Operand<'a>
-    ensures { seen result ≡ operand.number width value }
-{
-    Operand::Number { width, value }
-}
-
 // What a number beyond 64 bits is for a wanted type.
 fn beyond(wanted: Wanted) -> ConstFault
     ensures { fitted wanted None (operand.number Wide (pos 9223372036854775808)) ≡ Err result }
@@ -74,18 +69,10 @@ fn number_at(outcomes: &[Outcome], number: usize) -> i64
     ensures { result ≡ meant.number_in (out-Const (values_in outcomes.now number)) }
 {
     match outcomes.get(number) {
-        Some(outcome) => number_of(outcome),
+        Some(Outcome::Given(value)) => number_in(value),
+        Some(Outcome::Fault(_)) => 0,
+        Some(Outcome::Unjudged) => 0,
         None => 0,
-    }
-}
-
-fn number_of(outcome: &Outcome) -> i64
-    ensures { result ≡ meant.number_in (out-Const (value_of outcome.now)) }
-{
-    match outcome {
-        Outcome::Given(value) => number_in(value),
-        Outcome::Fault(_) => 0,
-        Outcome::Unjudged => 0,
     }
 }
 

@@ -3,3 +3,4 @@ pub mod ItemViews
 pub mod SmallPlaces
 pub mod Dependence
 pub mod TargetViews
+pub mod steps

@@ -1,5 +1,5 @@
 //! The dependence of items on each other, as the edges of a graph.
-ghost use Rattle.std.specs.Prelude.{◌≡◌, ◌≤◌, ◌<◌, ◌++◌, ◌||◌, [], length, map, ℕ, IfOk, IfSome, OnOk};
+ghost use Rattle.std.specs.Prelude.{◌≡◌, ◌<◌, ◌++◌, [], map, ℕ, IfOk, IfSome, OnOk};
 ghost use Rattle.std.specs.List.{cons_option};
 ghost use Rattle.aidl_names.specs.Refusals.{IsScope};
 ghost use Rattle.aidl_syntax.specs.Sources.{source_of};
@@ -14,7 +14,6 @@ use crate::numbering::Items;
 use crate::target::{number_of, target_of};
 use aidl_base::{OutOfMemory, Row};
 use aidl_names::Names;
-use aidl_syntax::DottedTree;
 use std::alloc::Global;
 
 /// Of each item in order the numbers of those that it depends on, and whether a name in it has no meaning.
@@ -31,8 +30,7 @@ pub fn dependence_of(
     names: &Names<'_>,
     items: &Items<'_>,
 ) -> Result<Dependence, OutOfMemory>
-    requires count { length items.now.list.items ≤ 4294967296 }
-    requires items { map item_of items.now.list.items ≡ items_of (map source_of names.now) }
+    requires { map item_of items.now.list.items ≡ items_of (map source_of names.now) }
     ensures rows { IfOk result (λ all.
         all.next.items
         ≡ map (meant.depends_on (map source_of names.now)) (items_of (map source_of names.now))) }
@@ -61,7 +59,6 @@ fn of_item(
     item: &ItemRef<'_>,
 ) -> Result<(Vec<u32>, bool), OutOfMemory>
     requires scope { IsScope (map source_of names.now) item.now.file item.now.scope }
-    requires count { length items.now.list.items ≤ 4294967296 }
     requires items { map item_of items.now.list.items ≡ items_of (map source_of names.now) }
     ensures next { IfOk result (λ all. all.0.items
         ≡ meant.depends_on (map source_of names.now) (item_of item.now)) }
@@ -69,43 +66,15 @@ fn of_item(
         ≡ meant.has_unknown_name (map source_of names.now) (item_of item.now)) }
 {
     let inside = names_in(alloc, *item)?;
-    let (mut numbers, unknown) = of_names(alloc, names, items, item, inside.as_slice())?;
-    add_before(items, item, &mut numbers)?;
-    Ok((numbers, unknown))
-}
-
-// The numbers of what names in an item mean, and whether one has no meaning.
-fn of_names(
-    alloc: Global,
-    names: &Names<'_>,
-    items: &Items<'_>,
-    item: &ItemRef<'_>,
-    inside: &[&DottedTree],
-) -> Result<(Vec<u32>, bool), OutOfMemory>
-    requires scope { IsScope (map source_of names.now) item.now.file item.now.scope }
-    requires count { length items.now.list.items ≤ 4294967296 }
-    requires items { map item_of items.now.list.items ≡ items_of (map source_of names.now) }
-    ensures next { IfOk result (λ all.
-        all.0.items ≡ meant.numbers_of (map source_of names.now)
-        (item_of item.now) (map (λ d. d.now) inside.now)) }
-    ensures unknown { IfOk result (λ all.
-        all.1 ≡ meant.is_unknown_among (map source_of names.now)
-        (item_of item.now) (map (λ d. d.now) inside.now)) }
-{
     let mut numbers = Vec::new(alloc);
     let mut unknown = false;
-    for name in inside {
+    for name in inside.as_slice() {
         let target = target_of(names, item, name);
-        unknown = either(unknown, target.is_none());
+        unknown |= target.is_none();
         add_found(number_of(items, target), &mut numbers)?;
     }
+    add_before(items, item, &mut numbers)?;
     Ok((numbers, unknown))
-}
-
-fn either(a: bool, b: bool) -> bool
-    ensures { result ≡ (a || b) }
-{
-    a || b
 }
 
 // The enumerator before an item, where it depends on it.
@@ -114,7 +83,6 @@ fn add_before(
     item: &ItemRef<'_>,
     numbers: &mut Vec<u32>,
 ) -> Result<(), OutOfMemory>
-    requires count { length items.now.list.items ≤ 4294967296 }
     ensures { OnOk result (numbers.new.items ≡ numbers.old.items
         ++ meant.before_among (map item_of items.now.list.items)
         (item_of item.now) (item_of item.now).value) }

@@ -17,13 +17,6 @@ pub struct ItemRef<'a> {
     pub value: WrittenRef<'a>,
 }
 
-/// The declaration in which names are looked up: the number of its file, and its own.
-#[derive(Clone, Copy)]
-pub struct Scope {
-    pub file: u32,
-    pub number: u32,
-}
-
 /// What is written of an item.
 #[derive(Clone, Copy)]
 pub enum WrittenRef<'a> {

@@ -9,6 +9,7 @@ mod listing;
 mod named;
 mod numbering;
 mod order;
+mod scope;
 mod target;
 
 pub use counted::{law_count, law_places};

@@ -1,25 +1,23 @@
 //! The items of each declaration: its fields, constants and enumerators, and the members of brace lists.
-ghost use Rattle.std.specs.Prelude.{◌≡◌, ◌≤◌, ◌++◌, ◌∷◌, [], None, false, map, length, IfOk, OnOk};
-ghost use Rattle.aidl_syntax.specs.Trees.{Members, body_of, constant_of, enumerator_of, expr_of, exprs_of, field_of, init_of};
+ghost use Rattle.std.specs.Prelude.{◌≡◌, ◌++◌, ◌∷◌, [], None, false, map, IfOk, OnOk};
+ghost use Rattle.aidl_syntax.specs.Trees.{Members, enumerator_of, expr_of, exprs_of, field_of};
 ghost use Rattle.aidl_syntax.specs.Trees.{map_option, member_of, members_of};
 ghost use Rattle.aidl_syntax.specs.Members.{listed};
-ghost use Rattle.declared_names.specs.Declarations.{declarations};
 ghost use Rattle.aidl_names.specs.Refusals.{IsScope};
 ghost use Rattle.declared_names.specs.Entries.{entry_of};
 ghost use Rattle.aidl_syntax.specs.Sources.{source_of};
 ghost use Rattle.const_items.specs.Items as meant;
 ghost use Rattle.const_items.specs.ItemViews.{item_of, written_of};
 
-use crate::item::{ItemRef, Scope, WrittenRef};
+use crate::item::{ItemRef, WrittenRef};
+use crate::scope::Scope;
 use aidl_base::OutOfMemory;
 use aidl_names::{Names, law_accepted};
-use aidl_syntax::{
-    BodyTree, ConstantTree, EnumeratorTree, ExprTree, FieldTree, InitTree, MemberTree,
-};
+use aidl_syntax::{BodyTree, EnumeratorTree, ExprTree, FieldTree, InitTree, MemberTree};
 use const_values::Wanted;
 use declared_names::Found;
 use std::alloc::Global;
-use type_shapes::{Shape, backing_of, is_unjudged, shape_of, wanted_element, wanted_one};
+use type_shapes::{backing_of, is_unjudged, wanted_element, wanted_one};
 
 /// The items of a tree, in the order of the declarations.
 pub fn declared<'a>(alloc: Global, names: &Names<'a>) -> Result<Vec<ItemRef<'a>>, OutOfMemory>
@@ -27,25 +25,12 @@ pub fn declared<'a>(alloc: Global, names: &Names<'a>) -> Result<Vec<ItemRef<'a>>
         ≡ meant.declared (map source_of names.now)) }
 {
     law_accepted(names);
+    let found = names.decls();
     let mut all = Vec::new(alloc);
-    add_all(names, names.decls(), &mut all)?;
-    Ok(all)
-}
-
-fn add_all<'a>(
-    names: &Names<'a>,
-    found: &[Found<'a>],
-    all: &mut Vec<ItemRef<'a>>,
-) -> Result<(), OutOfMemory>
-    requires count { length found.now ≤ 16384 }
-    requires found { map entry_of found.now ≡ declarations (map source_of names.now) }
-    ensures { OnOk result (map item_of all.new.items ≡ map item_of all.old.items
-        ++ meant.declared (map source_of names.now)) }
-{
     for (i, f) in found.iter().enumerate() {
-        add_entry(names, i as u32, f, all)?;
+        add_entry(names, i as u32, f, &mut all)?;
     }
-    Ok(())
+    Ok(all)
 }
 
 // Those of the declaration with a number.
@@ -60,83 +45,69 @@ fn add_entry<'a>(
         ++ meant.of_entry (map source_of names.now) number (entry_of found.now)) }
 {
     let scope = Scope {
+        names,
         file: found.file,
         number,
     };
-    add_body(names, scope, backing_of(found.tree), &found.tree.body, all)
-}
-
-fn add_body<'a>(
-    names: &Names<'a>,
-    scope: Scope,
-    backing: Wanted,
-    body: &'a BodyTree,
-    all: &mut Vec<ItemRef<'a>>,
-) -> Result<(), OutOfMemory>
-    requires { IsScope (map source_of names.now) scope.file scope.number }
-    ensures { OnOk result (map item_of all.new.items ≡ map item_of all.old.items
-        ++ meant.of_body (map source_of names.now) scope.file scope.number backing
-        (body_of body.now)) }
-{
-    match body {
+    match &found.tree.body {
         BodyTree::Parcelable(members) => {
             let in_union = false;
-            add_members(names, scope, in_union, members.as_slice(), all)
+            add_members(&scope, in_union, members.as_slice(), all)
         }
         BodyTree::Union(members) => {
             let in_union = true;
-            add_members(names, scope, in_union, members.as_slice(), all)
+            add_members(&scope, in_union, members.as_slice(), all)
         }
-        BodyTree::Enum(enumerators) => add_enumerators(scope, backing, enumerators.as_slice(), all),
+        BodyTree::Enum(enumerators) => {
+            let backing = backing_of(found.tree);
+            add_enumerators(&scope, backing, enumerators.as_slice(), all)
+        }
         BodyTree::Interface { members, .. } => {
             let in_union = false;
-            add_members(names, scope, in_union, members.as_slice(), all)
+            add_members(&scope, in_union, members.as_slice(), all)
         }
     }
 }
 
 fn add_members<'a>(
-    names: &Names<'a>,
-    scope: Scope,
+    scope: &Scope<'_, 'a>,
     in_union: bool,
     members: &'a [MemberTree],
     all: &mut Vec<ItemRef<'a>>,
 ) -> Result<(), OutOfMemory>
-    requires { IsScope (map source_of names.now) scope.file scope.number }
     ensures { OnOk result (map item_of all.new.items ≡ map item_of all.old.items
-        ++ meant.of_members (map source_of names.now) scope.file scope.number in_union false
-        (listed (members_of members.now))) }
+        ++ meant.of_members (map source_of scope.now.files) scope.now.file scope.now.number
+        in_union false (listed (members_of members.now))) }
 {
     let mut later = false;
     for member in members {
-        later = add_member(names, scope, in_union, later, member, all)?;
+        later = add_member(scope, in_union, later, member, all)?;
     }
     Ok(())
 }
 
-// Those of a member, and whether a field of a union stands before the next one.
+// Adds those of a member, and answers whether a field of a union stands before the next one.
 fn add_member<'a>(
-    names: &Names<'a>,
-    scope: Scope,
+    scope: &Scope<'_, 'a>,
     in_union: bool,
     later: bool,
     member: &'a MemberTree,
     all: &mut Vec<ItemRef<'a>>,
 ) -> Result<bool, OutOfMemory>
-    requires { IsScope (map source_of names.now) scope.file scope.number }
     ensures { let of = meant.of_members
-        (map source_of names.now) scope.file scope.number in_union in
+        (map source_of scope.now.files) scope.now.file scope.now.number in_union in
         IfOk result (λ next. (ms : Members)
         → map item_of all.old.items ++ of later (listed (member_of member.now ms))
         ≡ map item_of all.new.items ++ of next (listed ms)) }
 {
     match member {
         MemberTree::Field(field) => {
-            add_field(names, scope, later, field, all)?;
+            add_field(scope, later, field, all)?;
             Ok(later || in_union)
         }
         MemberTree::Constant(constant) => {
-            add_constant(names, scope, constant, all)?;
+            let wanted = wanted_one(scope.names.decls(), scope.shape_of(&constant.ty));
+            add_expression(scope, wanted, false, &constant.value, all)?;
             Ok(later)
         }
         MemberTree::Method(_) => Ok(later),
@@ -145,38 +116,20 @@ fn add_member<'a>(
 }
 
 fn add_field<'a>(
-    names: &Names<'a>,
-    scope: Scope,
+    scope: &Scope<'_, 'a>,
     later: bool,
     field: &'a FieldTree,
     all: &mut Vec<ItemRef<'a>>,
 ) -> Result<(), OutOfMemory>
-    requires { IsScope (map source_of names.now) scope.file scope.number }
     ensures { OnOk result (map item_of all.new.items ≡ map item_of all.old.items
-        ++ meant.of_field (map source_of names.now) scope.file scope.number later
+        ++ meant.of_field (map source_of scope.now.files) scope.now.file scope.now.number later
         (field_of field.now)) }
 {
-    match &field.initial {
-        None => Ok(()),
-        Some(init) => {
-            let shape = shape_of(names, scope.file, scope.number, &field.ty);
-            add_typed(names.decls(), scope, later, shape, init, all)
-        }
-    }
-}
-
-fn add_typed<'a>(
-    found: &[Found<'_>],
-    scope: Scope,
-    later: bool,
-    shape: Shape,
-    init: &'a InitTree,
-    all: &mut Vec<ItemRef<'a>>,
-) -> Result<(), OutOfMemory>
-    ensures { OnOk result (map item_of all.new.items ≡ map item_of all.old.items
-        ++ meant.of_typed (map entry_of found.now) scope.file scope.number later shape
-        (init_of init.now)) }
-{
+    let Some(init) = &field.initial else {
+        return Ok(());
+    };
+    let found = scope.names.decls();
+    let shape = scope.shape_of(&field.ty);
     let unjudged = is_unjudged(found, later, shape, init);
     match init {
         InitTree::Single(tree) => {
@@ -191,14 +144,15 @@ fn add_typed<'a>(
 }
 
 fn add_each<'a>(
-    scope: Scope,
+    scope: &Scope<'_, 'a>,
     wanted: Wanted,
     unjudged: bool,
     trees: &'a [ExprTree],
     all: &mut Vec<ItemRef<'a>>,
 ) -> Result<(), OutOfMemory>
     ensures { OnOk result (map item_of all.new.items ≡ map item_of all.old.items
-        ++ map (meant.of_expression scope.file scope.number wanted unjudged) (exprs_of trees.now)) }
+        ++ map (meant.of_expression scope.now.file scope.now.number wanted unjudged)
+        (exprs_of trees.now)) }
 {
     for tree in trees {
         add_expression(scope, wanted, unjudged, tree, all)?;
@@ -207,14 +161,15 @@ fn add_each<'a>(
 }
 
 fn add_expression<'a>(
-    scope: Scope,
+    scope: &Scope<'_, 'a>,
     wanted: Wanted,
     unjudged: bool,
     tree: &'a ExprTree,
     all: &mut Vec<ItemRef<'a>>,
 ) -> Result<(), OutOfMemory>
     ensures { OnOk result (map item_of all.new.items ≡ map item_of all.old.items
-        ++ meant.of_expression scope.file scope.number wanted unjudged (expr_of tree.now) ∷ []) }
+        ++ meant.of_expression scope.now.file scope.now.number wanted unjudged
+        (expr_of tree.now) ∷ []) }
 {
     all.push(ItemRef {
         file: scope.file,
@@ -228,59 +183,31 @@ fn add_expression<'a>(
     Ok(())
 }
 
-fn add_constant<'a>(
-    names: &Names<'a>,
-    scope: Scope,
-    constant: &'a ConstantTree,
-    all: &mut Vec<ItemRef<'a>>,
-) -> Result<(), OutOfMemory>
-    requires { IsScope (map source_of names.now) scope.file scope.number }
-    ensures { OnOk result (map item_of all.new.items ≡ map item_of all.old.items
-        ++ meant.of_constant (map source_of names.now) scope.file scope.number
-        (constant_of constant.now) ∷ []) }
-{
-    let shape = shape_of(names, scope.file, scope.number, &constant.ty);
-    let wanted = wanted_one(names.decls(), shape);
-    add_expression(scope, wanted, false, &constant.value, all)
-}
-
 fn add_enumerators<'a>(
-    scope: Scope,
+    scope: &Scope<'_, 'a>,
     backing: Wanted,
     enumerators: &'a [EnumeratorTree],
     all: &mut Vec<ItemRef<'a>>,
 ) -> Result<(), OutOfMemory>
     ensures { OnOk result (map item_of all.new.items ≡ map item_of all.old.items
-        ++ meant.of_enumerators scope.file scope.number backing None
+        ++ meant.of_enumerators scope.now.file scope.now.number backing None
         (map enumerator_of enumerators.now)) }
 {
     let mut before = None;
     for enumerator in enumerators {
-        let item = of_enumerator(scope, backing, before, enumerator);
-        all.push(item)?;
-        before = Some(item.place);
+        let place = place_by(enumerator.name.offset, &enumerator.value);
+        all.push(ItemRef {
+            file: scope.file,
+            scope: scope.number,
+            place,
+            enumerates: true,
+            wanted: backing,
+            unjudged: false,
+            value: written_as(before, &enumerator.value),
+        })?;
+        before = Some(place);
     }
     Ok(())
-}
-
-fn of_enumerator(
-    scope: Scope,
-    backing: Wanted,
-    before: Option<u32>,
-    enumerator: &EnumeratorTree,
-) -> ItemRef<'_>
-    ensures { item_of result ≡ meant.of_enumerator scope.file scope.number backing before
-        (enumerator_of enumerator.now) }
-{
-    ItemRef {
-        file: scope.file,
-        scope: scope.number,
-        place: place_by(enumerator.name.offset, &enumerator.value),
-        enumerates: true,
-        wanted: backing,
-        unjudged: false,
-        value: written_as(before, &enumerator.value),
-    }
 }
 
 /// Where an enumerator's expression begins, or else its name.
@@ -298,15 +225,9 @@ fn written_as(before: Option<u32>, value: &Option<ExprTree>) -> WrittenRef<'_>
 {
     match value {
         Some(tree) => WrittenRef::Expression(tree),
-        None => behind(before),
-    }
-}
-
-fn behind<'a>(before: Option<u32>) -> WrittenRef<'a>
-    ensures { written_of result ≡ meant.behind before }
-{
-    match before {
-        None => WrittenRef::First,
-        Some(place) => WrittenRef::After(place),
+        None => match before {
+            None => WrittenRef::First,
+            Some(place) => WrittenRef::After(place),
+        },
     }
 }

@@ -1,10 +1,8 @@
 //! The constant or the enumerator that a name in an expression means.
 ghost use Rattle.std.specs.Prelude.{◌≡◌, map};
 ghost use Rattle.declared_names.specs.Declarations.{declarations};
-ghost use Rattle.declared_names.specs.MemberViews.{seen_member};
 ghost use Rattle.aidl_names.specs.Refusals.{IsScope};
 ghost use Rattle.aidl_syntax.specs.Sources.{source_of};
-ghost use Rattle.aidl_syntax.specs.Trees.{map_option};
 ghost use Rattle.const_items.specs.Dependence as meant;
 ghost use Rattle.const_items.specs.ItemViews.{item_of};
 ghost use Rattle.const_items.specs.TargetViews.{seen_targets};
@@ -42,15 +40,7 @@ pub fn target_of<'a>(names: &Names<'a>, item: &ItemRef<'_>, name: &DottedTree) -
     ensures { seen_targets result
         ≡ meant.target (map source_of names.now) (item_of item.now) name.now }
 {
-    target_by(names, item, name.name.0.as_slice())
-}
-
-fn target_by<'a>(names: &Names<'a>, item: &ItemRef<'_>, name: &[Ident]) -> Option<Target<'a>>
-    requires { IsScope (map source_of names.now) item.now.file item.now.scope }
-    ensures { seen_targets result
-        ≡ meant.target_by (map source_of names.now) (item_of item.now) name.now }
-{
-    match name {
+    match name.name.0.as_slice() {
         [] => None,
         [part] => target_of_part(names, item, part),
         [front @ .., last] => {
@@ -85,28 +75,13 @@ fn enumerator_beside<'a>(names: &Names<'a>, item: &ItemRef<'_>, name: &Ident) ->
     ensures { seen_targets result ≡ meant.enumerator_beside
         (declarations (map source_of names.now)) (item_of item.now) name.now }
 {
-    if item.enumerates {
-        only_enumerators(member_at(names, item.scope, name))
-    } else {
-        None
+    if !item.enumerates {
+        return None;
     }
-}
-
-fn only_enumerators(target: Option<Target<'_>>) -> Option<Target<'_>>
-    ensures { seen_targets result ≡ meant.only_enumerators (seen_targets target.entry) }
-{
+    let target = member_at(names, item.scope, name);
     match target {
         Some(Target::Enumerator { .. }) => target,
         _ => None,
-    }
-}
-
-fn only_constants(target: Option<Target<'_>>) -> Option<Target<'_>>
-    ensures { seen_targets result ≡ meant.only_constants (seen_targets target.entry) }
-{
-    match target {
-        Some(Target::Enumerator { .. }) => None,
-        _ => target,
     }
 }
 
@@ -125,9 +100,10 @@ fn constant_around<'a>(
     }
     let number = scope?;
     let around = names.decls().get(number as usize)?;
-    match only_constants(member_at(names, number, name)) {
-        Some(target) => Some(target),
-        None => constant_around(names, levels - 1, name, around.outer),
+    let target = member_at(names, number, name);
+    match target {
+        Some(Target::Constant { .. }) => target,
+        _ => constant_around(names, levels - 1, name, around.outer),
     }
 }
 
@@ -136,26 +112,8 @@ fn member_at<'a>(names: &Names<'a>, number: u32, name: &Ident) -> Option<Target<
     ensures { seen_targets result
         ≡ meant.member_at (declarations (map source_of names.now)) number name.now }
 {
-    match names.decls().get(number as usize) {
-        None => None,
-        Some(found) => target_if(found.file, number, names.member(number, name)),
-    }
-}
-
-fn target_if(file: u32, number: u32, member: Option<MemberRef<'_>>) -> Option<Target<'_>>
-    ensures { seen_targets result
-        ≡ meant.target_if file number (map_option seen_member member.entry) }
-{
-    match member {
-        None => None,
-        Some(member) => target_of_member(file, number, member),
-    }
-}
-
-fn target_of_member(file: u32, number: u32, member: MemberRef<'_>) -> Option<Target<'_>>
-    ensures { seen_targets result ≡ meant.target_of file number (seen_member member.entry) }
-{
-    match member {
+    let file = names.decls().get(number as usize)?.file;
+    match names.member(number, name)? {
         MemberRef::Constant(constant) => Some(Target::Constant {
             file,
             number,

@@ -2,6 +2,7 @@ mod Within
 mod Few
 mod InOrder
 mod Keyed
+mod Trees
 pub mod lemmas
 mod named
 mod settled

@@ -7,3 +7,4 @@ pub mod Named
 pub mod SchemaOf
 pub mod Keyed
 pub mod Checked
+pub mod steps

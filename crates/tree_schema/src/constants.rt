@@ -1,53 +1,53 @@
 //! The constants of a declaration in the schema, sorted by their names.
 ghost use Rattle.std.specs.Prelude.{◌≡◌, string_bytes, IfOk, OnOk};
 ghost use Rattle.std.specs.List.{fold};
-ghost use Rattle.aidl_syntax.specs.Members.{listed};
-ghost use Rattle.aidl_syntax.specs.Trees.{Members, constant_of, member_of, members_of};
+ghost use Rattle.aidl_syntax.specs.Members.{listed, members};
+ghost use Rattle.aidl_syntax.specs.Trees.{Members, body_of, constant_of, member_of, members_of};
 ghost use Rattle.tree_schema.specs.Keyed.{IsKeyed, values_at};
 ghost use Rattle.tree_schema.specs.Parts as meant;
-ghost use Rattle.tree_schema.specs.TreeViews.{HasItems, HasNumbers, IsDeclared, files_of, outcomes_of};
+ghost use Rattle.tree_schema.specs.steps.Scopes.{files_of, outcomes_of};
 
-use crate::copied::copied_ident;
-use crate::tree::Scope;
+use crate::scope::Scope;
 use crate::types::type_of;
 use crate::values::constant_value;
-use aidl_base::{OutOfMemory, Row};
+use aidl_base::{Ident, OutOfMemory, Row};
 use aidl_schema::Constant;
-use aidl_syntax::{ConstantTree, MemberTree};
+use aidl_syntax::{BodyTree, ConstantTree, MemberTree};
 use std::alloc::Global;
 use std::collections::BTreeMap;
 
-/// The constants among the members of a declaration, in the order of the bytes of their names.
-pub fn constants_in(
+/// The constants of a declaration, in the order of the bytes of their names; an enum has none.
+pub fn constants_of(
+    alloc: Global,
+    scope: &Scope<'_, '_>,
+    body: &BodyTree,
+) -> Result<Row<Constant>, OutOfMemory>
+    ensures { IfOk result (λ constants. constants
+        ≡ meant.constants_in (files_of scope.now) (outcomes_of scope.now)
+        scope.now.file scope.now.number (members (body_of body.now))) }
+{
+    match body {
+        BodyTree::Parcelable(members) => constants_in(alloc, scope, members.as_slice()),
+        BodyTree::Union(members) => constants_in(alloc, scope, members.as_slice()),
+        BodyTree::Enum(_) => Ok(Row::new(alloc)),
+        BodyTree::Interface { members, .. } => constants_in(alloc, scope, members.as_slice()),
+    }
+}
+
+fn constants_in(
     alloc: Global,
     scope: &Scope<'_, '_>,
     members: &[MemberTree],
 ) -> Result<Row<Constant>, OutOfMemory>
-    requires items { HasItems scope.now.tree }
-    requires scope { IsDeclared scope.now }
-    requires numbers { HasNumbers scope.now.tree }
     ensures { IfOk result (λ constants. constants
-        ≡ meant.constants_in (files_of scope.now.tree) (outcomes_of scope.now.tree)
+        ≡ meant.constants_in (files_of scope.now) (outcomes_of scope.now)
         scope.now.file scope.now.number (listed (members_of members.now))) }
 {
     let mut by_name = BTreeMap::new(alloc);
     for member in members {
         add_member(alloc, scope, member, &mut by_name)?;
     }
-    in_order(alloc, by_name)
-}
-
-fn in_order(
-    alloc: Global,
-    mut by_name: BTreeMap<String, Constant>,
-) -> Result<Row<Constant>, OutOfMemory>
-    ensures { IfOk result (λ constants. constants ≡ values_at by_name.entries) }
-{
-    let mut constants = Vec::with_capacity(alloc, by_name.len())?;
-    'by_name: while let Some((_, constant)) = by_name.pop_first() {
-        constants.push(constant)?;
-    }
-    Ok(Row::from_vec(constants))
+    Ok(Row::from_vec(by_name.into_values().collect(alloc)?))
 }
 
 // Adds the constant that a member is.
@@ -57,42 +57,25 @@ fn add_member(
     member: &MemberTree,
     by_name: &mut BTreeMap<String, Constant>,
 ) -> Result<(), OutOfMemory>
-    requires items { HasItems scope.now.tree }
-    requires scope { IsDeclared scope.now }
-    requires numbers { HasNumbers scope.now.tree }
-    requires keyed { IsKeyed (λ t. string_bytes t) meant.bytes_of by_name.old.entries }
+    requires { IsKeyed (λ t. string_bytes t) meant.bytes_of by_name.old.entries }
     ensures keyed { OnOk result (IsKeyed (λ t. string_bytes t) meant.bytes_of by_name.new.entries) }
     ensures all { let of = meant.listed_constants
-        (files_of scope.now.tree) (outcomes_of scope.now.tree) scope.now.file scope.now.number in
+        (files_of scope.now) (outcomes_of scope.now) scope.now.file scope.now.number in
         OnOk result ((ms : Members)
         → fold meant.put (values_at by_name.old.entries) (of (listed (member_of member.now ms)))
         ≡ fold meant.put (values_at by_name.new.entries) (of (listed ms))) }
 {
     match member {
-        MemberTree::Constant(constant) => add_constant(
-            alloc,
-            constant_in(alloc, scope, constant)?,
-            by_name,
-        ),
+        MemberTree::Constant(constant) => {
+            let constant = constant_in(alloc, scope, constant)?;
+            let name = String::from_str(alloc, constant.name.0.as_str())?;
+            by_name.insert(name, constant)?;
+            Ok(())
+        }
         MemberTree::Field(_) => Ok(()),
         MemberTree::Method(_) => Ok(()),
         MemberTree::Nested(_) => Ok(()),
     }
-}
-
-fn add_constant(
-    alloc: Global,
-    constant: Constant,
-    by_name: &mut BTreeMap<String, Constant>,
-) -> Result<(), OutOfMemory>
-    requires keyed { IsKeyed (λ t. string_bytes t) meant.bytes_of by_name.old.entries }
-    ensures keyed { OnOk result (IsKeyed (λ t. string_bytes t) meant.bytes_of by_name.new.entries) }
-    ensures all { OnOk result (values_at by_name.new.entries
-        ≡ meant.put (values_at by_name.old.entries) constant) }
-{
-    let text = String::from_str(alloc, constant.name.0.as_str())?;
-    by_name.insert(text, constant)?;
-    Ok(())
 }
 
 fn constant_in(
@@ -100,17 +83,14 @@ fn constant_in(
     scope: &Scope<'_, '_>,
     constant: &ConstantTree,
 ) -> Result<Constant, OutOfMemory>
-    requires items { HasItems scope.now.tree }
-    requires scope { IsDeclared scope.now }
-    requires numbers { HasNumbers scope.now.tree }
     ensures { IfOk result (λ c. c
-        ≡ meant.constant_in (files_of scope.now.tree) (outcomes_of scope.now.tree)
+        ≡ meant.constant_in (files_of scope.now) (outcomes_of scope.now)
         scope.now.file scope.now.number (constant_of constant.now)) }
 {
     let ty = type_of(scope, constant.annots.as_slice(), &constant.ty);
     Ok(Constant {
-        name: copied_ident(alloc, &constant.name.name)?,
+        name: Ident(constant.name.name.0.try_clone(alloc)?),
         ty: ty.base,
-        value: constant_value(alloc, &scope.tree, scope.file, &constant.value)?,
+        value: constant_value(alloc, scope, &constant.value)?,
     })
 }

@@ -25,8 +25,7 @@ pub fn law_named(names: &Names<'_>)
     ensures limits { (outcomes : Outcomes)
         → IsTrue (is_within_limits (schema_of (map source_of names.now) outcomes)) }
 {
-    let files = names.files();
-    law_identifiers(files);
+    law_trees(names.files());
 }
 
 /// A law of the definitions: the schema of a tree that breaks no rule and passes no limit is valid.
@@ -35,36 +34,15 @@ pub fn law_valid(names: &Names<'_>)
         → IsValid (schema_of (map source_of names.now) outcomes) }
 {
     law_named(names);
-    let files = names.files();
-    law_identifiers(files);
-    law_places(files);
-    law_literals(files);
+    law_trees(names.files());
 }
 
-/// The names in each tree are identifiers.
-fn law_identifiers(files: &[ParsedFile])
+// In each tree the names are identifiers, the places ascend, and each literal holds what its kind may hold.
+fn law_trees(files: &[ParsedFile])
     requires { AreOfBytes files.now }
-    ensures { All HasIdentifiers (map source_of files.now) }
-{
-    for file in files {
-        law_tree(&file.tree);
-    }
-}
-
-/// The places in each tree ascend.
-fn law_places(files: &[ParsedFile])
-    requires { AreOfBytes files.now }
-    ensures { All (λ s. IsStrictlyIncreasing (places_of s.tree)) (map source_of files.now) }
-{
-    for file in files {
-        law_tree(&file.tree);
-    }
-}
-
-/// Each literal in each tree holds what its kind may hold.
-fn law_literals(files: &[ParsedFile])
-    requires { AreOfBytes files.now }
-    ensures { All (λ s. All (λ t. Holds t.kind) (literals_of s.tree)) (map source_of files.now) }
+    ensures names { All HasIdentifiers (map source_of files.now) }
+    ensures places { All (λ s. IsStrictlyIncreasing (places_of s.tree)) (map source_of files.now) }
+    ensures literals { All (λ s. All (λ t. Holds t.kind) (literals_of s.tree)) (map source_of files.now) }
 {
     for file in files {
         law_tree(&file.tree);

@@ -1,10 +1,7 @@
 //! The schema of a checked tree, by the trees that its types, values, fields and methods are written in, and why it is valid.
 #![tactic(auto)]
 
-mod backing;
-mod bases;
 mod constants;
-mod copied;
 mod drafting;
 mod fields;
 mod kinds;
@@ -12,6 +9,7 @@ mod laws;
 mod methods;
 mod numbers;
 mod order;
+mod scope;
 mod tree;
 mod types;
 mod values;
@@ -19,4 +17,4 @@ mod values;
 pub use drafting::draft;
 pub use laws::{law_named, law_valid};
 pub use order::in_schema_order;
-pub use tree::{Placed, Tree};
+pub use tree::Placed;

@@ -1,17 +1,15 @@
 //! The methods of an interface in the schema, with their ids, arguments and results.
 ghost use Rattle.std.specs.Prelude.{◌≡◌, ◌<◌, ◌+◌, ◌++◌, map, IfOk};
 ghost use Rattle.aidl_syntax.specs.Members.{listed};
-ghost use Rattle.aidl_syntax.specs.Trees.{Members, annot_of, arg_of, map_option, member_of, members_of, method_of};
+ghost use Rattle.aidl_syntax.specs.Trees.{Members, arg_of, member_of, members_of, method_of};
 ghost use Rattle.tree_schema.specs.Parts as meant;
-ghost use Rattle.tree_schema.specs.TreeViews.{HasNumbers, IsDeclared, files_of};
-ghost use Rattle.tree_schema.specs.Types as types;
+ghost use Rattle.tree_schema.specs.steps.Scopes.{files_of};
 
-use crate::copied::copied_ident;
-use crate::tree::Scope;
+use crate::scope::Scope;
 use crate::types::type_of;
-use aidl_base::{OutOfMemory, Row};
-use aidl_schema::{AidlType, Arg, Direction, Method};
-use aidl_syntax::{AnnotTree, ArgTree, MemberTree, MethodTree, TypeTree, WayTree};
+use aidl_base::{Ident, OutOfMemory, Row};
+use aidl_schema::{Arg, Direction, Method};
+use aidl_syntax::{ArgTree, MemberTree, MethodTree, WayTree};
 use std::alloc::Global;
 use type_uses::id_of;
 
@@ -22,10 +20,8 @@ pub fn methods_in(
     oneway: bool,
     members: &[MemberTree],
 ) -> Result<Row<Method>, OutOfMemory>
-    requires scope { IsDeclared scope.now }
-    requires numbers { HasNumbers scope.now.tree }
     ensures { IfOk result (λ methods.
-        methods ≡ meant.methods_in (files_of scope.now.tree)
+        methods ≡ meant.methods_in (files_of scope.now)
         scope.now.file scope.now.number oneway 0 (listed (members_of members.now))) }
 {
     let mut methods = Vec::new(alloc);
@@ -36,7 +32,7 @@ pub fn methods_in(
     Ok(Row::from_vec(methods))
 }
 
-// The method that a member is, and how many methods stand before the next one.
+// Adds the method that a member is, and answers how many methods stand before the next one.
 fn add_member(
     alloc: Global,
     scope: &Scope<'_, '_>,
@@ -45,11 +41,9 @@ fn add_member(
     member: &MemberTree,
     methods: &mut Vec<Method>,
 ) -> Result<u64, OutOfMemory>
-    requires scope { IsDeclared scope.now }
-    requires numbers { HasNumbers scope.now.tree }
-    requires few { before < 9223372036854775808 }
+    requires { before < 9223372036854775808 }
     ensures all { let of = meant.methods_in
-        (files_of scope.now.tree) scope.now.file scope.now.number oneway in
+        (files_of scope.now) scope.now.file scope.now.number oneway in
         IfOk result (λ next. (ms : Members)
         → methods.old.items ++ of before (listed (member_of member.now ms))
         ≡ methods.new.items ++ of next (listed ms)) }
@@ -81,62 +75,35 @@ fn method_in(
     id: u32,
     method: &MethodTree,
 ) -> Result<Method, OutOfMemory>
-    requires scope { IsDeclared scope.now }
-    requires numbers { HasNumbers scope.now.tree }
-    ensures { IfOk result (λ m. m ≡ meant.method_with (files_of scope.now.tree)
+    ensures { IfOk result (λ m. m ≡ meant.method_with (files_of scope.now)
         scope.now.file scope.now.number oneway id (method_of method.now)) }
 {
-    let annots = method.annots.as_slice();
     Ok(Method {
-        name: copied_ident(alloc, &method.name.name)?,
+        name: Ident(method.name.name.0.try_clone(alloc)?),
         id,
         oneway: method.oneway || oneway,
-        result: result_in(scope, annots, &method.result),
         args: args_in(alloc, scope, method.args.as_slice())?,
+        result: match &method.result {
+            None => None,
+            Some(ty) => Some(type_of(scope, method.annots.as_slice(), ty)),
+        },
     })
 }
 
-fn result_in(
-    scope: &Scope<'_, '_>,
-    annots: &[AnnotTree],
-    returned: &Option<TypeTree>,
-) -> Option<AidlType>
-    requires scope { IsDeclared scope.now }
-    requires numbers { HasNumbers scope.now.tree }
-    ensures { result ≡ map_option (types.type_of (files_of scope.now.tree)
-        scope.now.file scope.now.number (map annot_of annots.now)) returned.now }
-{
-    match returned {
-        None => None,
-        Some(ty) => Some(type_of(scope, annots, ty)),
-    }
-}
-
 fn args_in(alloc: Global, scope: &Scope<'_, '_>, args: &[ArgTree]) -> Result<Row<Arg>, OutOfMemory>
-    requires scope { IsDeclared scope.now }
-    requires numbers { HasNumbers scope.now.tree }
     ensures { IfOk result (λ row.
-        row ≡ map (meant.arg_in (files_of scope.now.tree) scope.now.file scope.now.number)
+        row ≡ map (meant.arg_in (files_of scope.now) scope.now.file scope.now.number)
         (map arg_of args.now)) }
 {
     let mut row = Vec::with_capacity(alloc, args.len())?;
     for arg in args {
-        row.push(arg_in(alloc, scope, arg)?)?;
+        row.push(Arg {
+            name: Ident(arg.name.name.0.try_clone(alloc)?),
+            way: way_of(arg.way),
+            ty: type_of(scope, arg.annots.as_slice(), &arg.ty),
+        })?;
     }
     Ok(Row::from_vec(row))
-}
-
-fn arg_in(alloc: Global, scope: &Scope<'_, '_>, arg: &ArgTree) -> Result<Arg, OutOfMemory>
-    requires scope { IsDeclared scope.now }
-    requires numbers { HasNumbers scope.now.tree }
-    ensures { IfOk result (λ a. a
-        ≡ meant.arg_in (files_of scope.now.tree) scope.now.file scope.now.number (arg_of arg.now)) }
-{
-    Ok(Arg {
-        name: copied_ident(alloc, &arg.name.name)?,
-        way: way_of(arg.way),
-        ty: type_of(scope, arg.annots.as_slice(), &arg.ty),
-    })
 }
 
 fn way_of(way: Option<WayTree>) -> Direction

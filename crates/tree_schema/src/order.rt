@@ -1,5 +1,5 @@
 //! The order of the declarations in the schema.
-ghost use Rattle.std.specs.Prelude.{◌≡◌, ◌≤◌, ◌++◌, length, map, IfOk};
+ghost use Rattle.std.specs.Prelude.{◌≡◌, ◌≤◌, length, map, IfOk};
 ghost use Rattle.declared_names.specs.Entries.{entry_of};
 ghost use Rattle.tree_schema.specs.Numbers as meant;
 ghost use Rattle.tree_schema.specs.TreeViews.{numbered_of};
@@ -30,19 +30,5 @@ pub fn in_schema_order<'a, 'b>(
         };
         places.insert(text, placed)?;
     }
-    declarations_of(alloc, places)
-}
-
-fn declarations_of<'a, 'b>(
-    alloc: Global,
-    mut places: BTreeMap<String, Placed<'a, 'b>>,
-) -> Result<Vec<Placed<'a, 'b>>, OutOfMemory>
-    ensures { IfOk result (λ all. map numbered_of all.items
-        ≡ map (λ e. numbered_of e.1) places.entry.entries) }
-{
-    let mut all = Vec::with_capacity(alloc, places.len())?;
-    'places: while let Some((_, placed)) = places.pop_first() {
-        all.push(placed)?;
-    }
-    Ok(all)
+    Ok(places.into_values().collect(alloc)?)
 }

@@ -2,37 +2,26 @@
 ghost use Rattle.std.specs.Prelude.{◌≡◌, map};
 ghost use Rattle.aidl_syntax.specs.Trees.{annot_of};
 ghost use Rattle.declared_names.specs.Declarations.{declarations};
-ghost use Rattle.tree_schema.specs.TreeViews.{HasNumbers, IsDeclared, files_of};
+ghost use Rattle.tree_schema.specs.steps.Scopes.{files_of};
 ghost use Rattle.tree_schema.specs.Types as meant;
 
-use crate::bases::base_of;
-use crate::tree::{Scope, Tree};
+use crate::scope::Scope;
 use aidl_schema::{AidlType, Base, Shape};
 use aidl_syntax::{AnnotTree, TypeTree};
-use type_shapes::{Shape as TreeShape, shape_of};
+use name_resolution::{BuiltinName, Resolved};
+use type_shapes::Shape as TreeShape;
 use type_uses::kept_of;
 
 /// The type in the schema that a type of a file is, where names are looked up in `scope`, and behind annotations (AOSP, "AIDL
 /// language", "Types"). For one that E16 refuses an array of int stands.
 pub fn type_of(scope: &Scope<'_, '_>, annots: &[AnnotTree], ty: &TypeTree) -> AidlType
-    requires scope { IsDeclared scope.now }
-    requires numbers { HasNumbers scope.now.tree }
-    ensures { result ≡ meant.type_of (files_of scope.now.tree) scope.now.file scope.now.number
+    ensures { result ≡ meant.type_of (files_of scope.now) scope.now.file scope.now.number
         (map annot_of annots.now) ty.now }
 {
-    let shape = shape_of(scope.tree.names, scope.file, scope.number, ty);
-    typed(&scope.tree, annots, shape)
-}
-
-fn typed(tree: &Tree<'_, '_>, annots: &[AnnotTree], shape: TreeShape) -> AidlType
-    requires numbers { HasNumbers tree.now }
-    ensures { result ≡ meant.typed (declarations (files_of tree.now))
-        (map annot_of annots.now) shape }
-{
-    match shape {
-        TreeShape::One(base) => flagged(annots, base_of(tree, base), Shape::One),
-        TreeShape::Array(base) => flagged(annots, base_of(tree, base), Shape::Array),
-        TreeShape::List(base) => flagged(annots, base_of(tree, base), Shape::List),
+    match scope.shape_of(ty) {
+        TreeShape::One(base) => flagged(annots, base_of(scope, base), Shape::One),
+        TreeShape::Array(base) => flagged(annots, base_of(scope, base), Shape::Array),
+        TreeShape::List(base) => flagged(annots, base_of(scope, base), Shape::List),
         TreeShape::Refused => flagged(annots, Base::Int, Shape::Array),
     }
 }
@@ -48,5 +37,25 @@ fn flagged(annots: &[AnnotTree], base: Base, shape: Shape) -> AidlType
         nullable: kept.nullable,
         heap: kept.heap,
         utf8: kept.utf8,
+    }
+}
+
+// The base that a name means. For the list word and for a left-out name int stands: E16 and E5 refuse them.
+fn base_of(scope: &Scope<'_, '_>, name: Resolved) -> Base
+    ensures { result ≡ meant.base_of (declarations (files_of scope.now)) name }
+{
+    match name {
+        Resolved::Builtin(BuiltinName::Boolean) => Base::Boolean,
+        Resolved::Builtin(BuiltinName::Byte) => Base::Byte,
+        Resolved::Builtin(BuiltinName::Char) => Base::Char,
+        Resolved::Builtin(BuiltinName::Int) => Base::Int,
+        Resolved::Builtin(BuiltinName::Long) => Base::Long,
+        Resolved::Builtin(BuiltinName::Text) => Base::Text,
+        Resolved::Declared(number) => match scope.schema_number(Some(number)) {
+            Some(number) => Base::Named(number),
+            None => Base::Int,
+        },
+        Resolved::ListWord => Base::Int,
+        Resolved::LeftOut => Base::Int,
     }
 }

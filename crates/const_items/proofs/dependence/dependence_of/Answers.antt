@@ -8,4 +8,4 @@ use Rattle.const_items.proofs.dependence.dependence_of.Goals as goal
 pub of_item-requires-clause-scope : goal.of_item-requires-clause-scope
 of_item-requires-clause-scope c =
     scoped (map source_of c.args.names.now) c.list-list.result.now c.loop-item.item-index c.item-item.result
-    (ap (map item_of) c.list-list.ensures ∙ c.requires.items) (omega arith) c.item-item.is
+    (ap (map item_of) c.list-list.ensures ∙ c.requires) (omega arith) c.item-item.is

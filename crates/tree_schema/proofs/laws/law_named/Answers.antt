@@ -14,12 +14,12 @@ named files same e all = named-files (map source_of files) (subst (λ (fs : List
 
 pub returns-clause-names : goal.returns-clause-names
 returns-clause-names c outcomes =
-    names-hold (map source_of c.args.names.now) outcomes (named c.args.names.now c.files-files.result.now c.files-files.ensures.files c.law_identifiers.ensures) c.files-files.ensures.accepted.1
+    names-hold (map source_of c.args.names.now) outcomes (named c.args.names.now c.files.result.now c.files.ensures.files c.law_trees.ensures.names) c.files.ensures.accepted.1
 
 pub returns-clause-members : goal.returns-clause-members
 returns-clause-members c outcomes =
-    members-hold (map source_of c.args.names.now) outcomes (named c.args.names.now c.files-files.result.now c.files-files.ensures.files c.law_identifiers.ensures) c.files-files.ensures.accepted.1
+    members-hold (map source_of c.args.names.now) outcomes (named c.args.names.now c.files.result.now c.files.ensures.files c.law_trees.ensures.names) c.files.ensures.accepted.1
 
 pub returns-clause-limits : goal.returns-clause-limits
 returns-clause-limits c outcomes =
-    limits-hold (map source_of c.args.names.now) outcomes (named c.args.names.now c.files-files.result.now c.files-files.ensures.files c.law_identifiers.ensures) c.files-files.ensures.accepted.0
+    limits-hold (map source_of c.args.names.now) outcomes (named c.args.names.now c.files.result.now c.files.ensures.files c.law_trees.ensures.names) c.files.ensures.accepted.0

@@ -1,23 +1,14 @@
 use Rattle.std.proofs.Common.{◌≡◌, List, map, All, subst}
-use Rattle.std.specs.List.Sorted.{IsStrictlyIncreasing}
-use Rattle.aidl_syntax.specs.declared.token.Token.{Token}
-use Rattle.aidl_syntax.specs.Parses.{Holds}
-use Rattle.aidl_syntax.specs.Walks.{literals_of, places_of}
 use Rattle.aidl_syntax.specs.declared.tree.ParsedFile.{ParsedFile}
-use Rattle.aidl_syntax.specs.Sources.{AreOfBytes, Source, source_of}
+use Rattle.aidl_syntax.specs.Sources.{Source, source_of}
 use Rattle.tree_schema.specs.Named.{HasIdentifiers}
 use Rattle.tree_schema.proofs.lemmas.valued.EnumsFilled.{files-filled}
 use Rattle.tree_schema.proofs.lemmas.settled.Faultless.{faultless, filled-files}
 use Rattle.tree_schema.proofs.lemmas.valued.Checked.{checked-types, checked-methods, checked-bounds, checked-constants, checked-initializers, checked-enums}
 use Rattle.tree_schema.proofs.lemmas.settled.Laws.{placed-files, plain-files}
 use Rattle.tree_schema.proofs.lemmas.walked.Files.{named-files}
+use Rattle.tree_schema.proofs.Trees.{AreHeld, ArePlaced}
 use Rattle.tree_schema.proofs.laws.law_valid.Goals as goal
-
-abbrev ArePlaced : Source → Type 0
-ArePlaced s = IsStrictlyIncreasing (places_of s.tree)
-
-abbrev AreHeld : Source → Type 0
-AreHeld s = All (λ (t : Token). Holds t.kind) (literals_of s.tree)
 
 of_same : (P : Source → Type 0) (same files : List ParsedFile) → same ≡ files → All P (map source_of same) → All P (map source_of files)
 of_same P same files e all = subst (λ (fs : List ParsedFile). All P (map source_of fs)) e all
@@ -25,13 +16,13 @@ of_same P same files e all = subst (λ (fs : List ParsedFile). All P (map source
 pub returns : goal.returns
 returns c outcomes checked =
     let files = map source_of c.args.names.now in
-    let same = c.files-files.ensures.files in
-    let accepted = c.files-files.ensures.accepted in
-    let identifiers = named-files files (of_same HasIdentifiers c.files-files.result.now c.args.names.now same c.law_identifiers.ensures) in
-    let plain = plain-files files (of_same AreHeld c.files-files.result.now c.args.names.now same c.law_literals.ensures) in
-    let once = placed-files files (of_same ArePlaced c.files-files.result.now c.args.names.now same c.law_places.ensures) in
+    let same = c.files.ensures.files in
+    let accepted = c.files.ensures.accepted in
+    let identifiers = named-files files (of_same HasIdentifiers c.files.result.now c.args.names.now same c.law_trees.ensures.names) in
+    let plain = plain-files files (of_same AreHeld c.files.result.now c.args.names.now same c.law_trees.ensures.literals) in
+    let once = placed-files files (of_same ArePlaced c.files.result.now c.args.names.now same c.law_trees.ensures.places) in
     let none = faultless files outcomes checked.constants in
-    let filled = files-filled files (filled-files c.args.names.now c.files-files.ensures.of_bytes) in
+    let filled = files-filled files (filled-files c.args.names.now c.files.ensures.of_bytes) in
     record {
       names = c.law_named.ensures.names outcomes;
       members = c.law_named.ensures.members outcomes;

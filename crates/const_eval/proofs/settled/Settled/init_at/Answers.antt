@@ -12,7 +12,7 @@ below list most file place n o le is e = MatchOption-at_some _ (λ k. k < most) 
 pub overflow_cast-result : goal.overflow_cast-result
 overflow_cast-result c =
     let less : c.in-Some.number < 4294967296 =
-    below c.args.self.now.items.list.items 4294967296 c.args.file c.args.offset c.in-Some.number c.number_at.result c.args.self.now.count c.number_at.ensures c.in-Some.is in
+    below c.args.self.now.items.list.items 4294967296 c.args.file c.args.offset c.in-Some.number c.number_at.result (omega (arith, c.args.self.now.items.few)) c.number_at.ensures c.in-Some.is in
     omega arith
 
 pub returns-in-Some-clause-within : goal.returns-in-Some-clause-within
