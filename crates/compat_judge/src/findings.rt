@@ -8,16 +8,14 @@ ghost use Rattle.compat_judge.specs.steps.Adds.{Adds, finding, found_so_far};
 
 use crate::judging::Broken;
 use aidl_base::{Ident, OutOfMemory, Row, Text};
+use growing::GrowingList;
 use std::alloc::{AllocError, Global};
 
-/// What is broken so far, in the order of the walk. Where memory is wanted for a finding the list isn't whole any more, whatever
-/// is added then, and who takes the findings is told; so no rule has an error of its own.
+/// What is broken so far, in the order of the walk: a list that remembers a want of memory, so no rule has an error of its own.
 #[derive(Drop)]
 pub struct Findings {
     pub alloc: Global,
-    pub rows: Vec<Finding>,
-    /// Whether memory was there for each finding.
-    pub is_whole: bool,
+    pub list: GrowingList<Finding>,
 }
 
 /// A place, and the number of the rule that is broken there: findings are sorted in this order.
@@ -29,21 +27,20 @@ pub struct Finding {
 
 impl Findings {
     pub fn new(alloc: Global) -> Findings
-        ensures whole { result.is_whole ≡ true }
+        ensures whole { result.list.is_whole ≡ true }
         ensures empty { found_so_far result ≡ [] }
     {
         Findings {
             alloc,
-            rows: Vec::new(alloc),
-            is_whole: true,
+            list: GrowingList::new(alloc),
         }
     }
 
     /// Memory was wanted for what a rule needs.
     pub fn lose(&mut self)
-        ensures { self.new.is_whole ≡ false }
+        ensures { self.new.list.is_whole ≡ false }
     {
-        self.is_whole = false;
+        self.list.lose();
     }
 
     // Adds a place that was made, if there was memory for it.
@@ -52,12 +49,8 @@ impl Findings {
             → Adds self.old self.new ((rule, place) ∷ []) }
     {
         match made {
-            Ok(place) => {
-                if self.rows.push(Finding { place, rule }).is_err() {
-                    self.is_whole = false;
-                }
-            }
-            Err(_) => self.is_whole = false,
+            Ok(place) => self.list.push(Finding { place, rule }),
+            Err(_) => self.list.lose(),
         }
     }
 
@@ -106,17 +99,11 @@ impl Findings {
 
     /// The findings by the bytes of their places, then by rule, each once, where memory was there for each.
     pub fn sorted_once(self) -> Result<Row<Broken>, OutOfMemory>
-        ensures { IfOk result (λ rows. (self.is_whole ≡ true)
+        ensures { IfOk result (λ rows. (self.list.is_whole ≡ true)
             × (map seen rows ≡ sorted_once (found_so_far self))) }
     {
-        let Findings {
-            alloc,
-            mut rows,
-            is_whole,
-        } = self;
-        if !is_whole {
-            return Err(OutOfMemory);
-        }
+        let Findings { alloc, list } = self;
+        let mut rows = list.into_vec()?;
         rows.sort_unstable();
         rows.dedup();
         rows_of(alloc, rows)

@@ -1,6 +1,7 @@
 //! What a command prints with its verdict, and how it ends early: by a refusal, a passed limit or want of memory.
-ghost use Rattle.std.specs.Prelude.{◌≡◌, ◌++◌};
+ghost use Rattle.std.specs.Prelude.{◌≡◌, ◌++◌, false, OnErr};
 ghost use Rattle.tool_frame.specs.Answer.{Answer, negative, limit_passed};
+ghost use Rattle.tool_frame.specs.declared.printed.Early.TheVariants.{OutOfMemory as Lost};
 ghost use Rattle.tool_frame.specs.Results.{EndsAs, Gives, IsGrown};
 
 use crate::verdict::Verdict;
@@ -35,7 +36,8 @@ impl From<OutOfMemory> for Early {
 
 /// What is printed of a text that grew, with its verdict, where memory was there for each piece.
 pub fn give(text: GrowingText, verdict: Verdict) -> Result<Printed, Early>
-    ensures { (answer : Answer) → IsGrown text verdict answer → Gives result answer }
+    ensures answer { (answer : Answer) → IsGrown text verdict answer → Gives result answer }
+    ensures refused { OnErr result (text.is_whole ≡ false) }
 {
     match text.into_string() {
         Ok(text) => Ok(Printed { text, verdict }),
@@ -45,7 +47,8 @@ pub fn give(text: GrowingText, verdict: Verdict) -> Result<Printed, Early>
 
 /// An early end with a text that grew, and its verdict, where memory was there for each piece.
 pub fn end_as(text: GrowingText, verdict: Verdict) -> Early
-    ensures { (answer : Answer) → IsGrown text verdict answer → EndsAs result answer }
+    ensures answer { (answer : Answer) → IsGrown text verdict answer → EndsAs result answer }
+    ensures refused { result ≡ Lost → text.is_whole ≡ false }
 {
     match text.into_string() {
         Ok(text) => Early::Answered(Printed { text, verdict }),

@@ -11,8 +11,8 @@ abbrev pub finding : Finding → Break
 finding f = (f.rule, chars (string_bytes f.place))
 
 abbrev pub found_so_far : Findings → List Break
-found_so_far found = map finding found.rows.items
+found_so_far found = map finding found.list.items.items
 
 -- if the findings are whole they were so before, and these are more
 pub record Adds (old new : Findings) (more : List Break) : Type 0 where
-  pub if_whole : new.is_whole ≡ true → (old.is_whole ≡ true) × (found_so_far new ≡ found_so_far old ++ more)
+  pub if_whole : new.list.is_whole ≡ true → (old.list.is_whole ≡ true) × (found_so_far new ≡ found_so_far old ++ more)

@@ -20,7 +20,7 @@ returns-in-Lex c =
     let files = c.args.files.now in
     let rows = c.in-Lex.rows in
     let given = c.as_slice.result.now in
-    ends_grown (IsFaultAnswer root files) (λ (text : List ℕ). text ≡ flat_map (lex_line root files) given) c.lex_lines.result c.lex_lines.result.is_whole refl c.end_as.result c.end_as.ensures c.lex_lines.ensures
+    ends_grown (IsFaultAnswer root files) (λ (text : List ℕ). text ≡ flat_map (lex_line root files) given) c.lex_lines.result c.lex_lines.result.is_whole refl c.end_as.result c.end_as.ensures.answer c.lex_lines.ensures
     (λ text h. (fault.Lex rows, subst (IsRefusal files) c.in-Lex.is c.requires, ap refused (h ∙ ap (flat_map (lex_line root files)) c.as_slice.ensures)))
 
 pub returns-in-Syntax : goal.returns-in-Syntax
@@ -29,7 +29,7 @@ returns-in-Syntax c =
     let files = c.args.files.now in
     let rows = c.in-Syntax.rows in
     let given = c.as_slice-in-Syntax.result.now in
-    ends_grown (IsFaultAnswer root files) (λ (text : List ℕ). AreSyntaxLines root files given text) c.syntax_lines.result c.syntax_lines.result.is_whole refl c.end_as-in-Syntax.result c.end_as-in-Syntax.ensures c.syntax_lines.ensures
+    ends_grown (IsFaultAnswer root files) (λ (text : List ℕ). AreSyntaxLines root files given text) c.syntax_lines.result c.syntax_lines.result.is_whole refl c.end_as-in-Syntax.result c.end_as-in-Syntax.ensures.answer c.syntax_lines.ensures
     (λ text h. (fault.Syntax rows, subst (IsRefusal files) c.in-Syntax.is c.requires, (text, subst (λ (ns : List ℕ). AreSyntaxLines root files ns text) c.as_slice-in-Syntax.ensures h, refl)))
 
 pub returns-in-Breaches : goal.returns-in-Breaches
@@ -38,7 +38,7 @@ returns-in-Breaches c =
     let files = c.args.files.now in
     let rows = c.in-Breaches.rows in
     let given = c.as_slice-in-Breaches.result.now in
-    ends_grown (IsFaultAnswer root files) (λ (text : List ℕ). text ≡ flat_map (breach_line root files) given) c.breach_lines.result c.breach_lines.result.is_whole refl c.end_as-in-Breaches.result c.end_as-in-Breaches.ensures c.breach_lines.ensures
+    ends_grown (IsFaultAnswer root files) (λ (text : List ℕ). text ≡ flat_map (breach_line root files) given) c.breach_lines.result c.breach_lines.result.is_whole refl c.end_as-in-Breaches.result c.end_as-in-Breaches.ensures.answer c.breach_lines.ensures
     (λ text h. (fault.Breaches rows, subst (IsRefusal files) c.in-Breaches.is c.requires, ap refused (h ∙ ap (flat_map (breach_line root files)) c.as_slice-in-Breaches.ensures)))
 
 pub syntax_lines-requires : goal.syntax_lines-requires
