@@ -6,8 +6,9 @@ use Rattle.aidl_values.specs.Data.{Data, Items}
 use Rattle.aidl_tool.specs.Between.{HasSeen, LacksMethod}
 use Rattle.call_runner.specs.Lines.{LineData, done, transport}
 use Rattle.call_runner.specs.Runs.{answer_by, projected, seen_line}
-use Rattle.call_scripts.specs.Calls.{CallData}
+use Rattle.call_scripts.specs.Calls.{CallData, callee}
 use Rattle.wire_model.specs.Calls.{AnswerData, returned, arguments, is_oneway, out_types, result_type}
+use Rattle.wire_model.specs.MethodOf.{method_of}
 use Rattle.wire_model.specs.Outcome.{Reaches, outcome, seen_answer, seen_call, view_arguments, view_result, view_values}
 use Rattle.wire_model.specs.Outcome as calls
 use Rattle.wire_model.specs.Status.{bad_value, unknown_transaction}
@@ -38,16 +39,16 @@ module _ (A B : List Decl) (c : CallData) where
   unknown_method (inl none) = rw none refl
   unknown_method (inr lacks) = rw (lacks.1, lacks.2) refl
 
-  module _ (j n : ℕ) (there : Reaches A c.interface c.method B j n) where
-    pub unviewed : view_arguments A (arguments A c.interface c.method) B (arguments B j n) c.args ≡ None → projected A B (Ok c) ≡ transport bad_value
+  module _ (j n : ℕ) (there : Reaches (callee A c) (method_of B j n)) where
+    pub unviewed : view_arguments A (arguments (callee A c)) B (arguments (method_of B j n)) c.args ≡ None → projected A B (Ok c) ≡ transport bad_value
     unfolding outcome seen_call
     unviewed none = rw (there.0, there.1, none) refl
 
     -- what is seen, and by whether the method is oneway what the client has
     abbrev seen_by : Items → Bool → LineData
-    seen_by saw way = seen_line (Ok (cond way (calls.oneway saw) (calls.done saw (seen_answer B j n A c.interface c.method (answer_by c.target)))))
+    seen_by saw way = seen_line (Ok (cond way (calls.oneway saw) (calls.done saw (seen_answer (method_of B j n) (callee A c) (answer_by c.target)))))
 
-    with_views : (saw : Items) → view_arguments A (arguments A c.interface c.method) B (arguments B j n) c.args ≡ Some saw → projected A B (Ok c) ≡ seen_by saw (is_oneway B j n)
+    with_views : (saw : Items) → view_arguments A (arguments (callee A c)) B (arguments (method_of B j n)) c.args ≡ Some saw → projected A B (Ok c) ≡ seen_by saw (is_oneway (method_of B j n))
     unfolding outcome seen_call
     with_views saw seen = rw (there.0, there.1, seen) refl
 
@@ -55,28 +56,28 @@ module _ (A B : List Decl) (c : CallData) where
     seen_any saw true = refl
     seen_any saw false = refl
 
-    pub has_seen : (saw : Items) → view_arguments A (arguments A c.interface c.method) B (arguments B j n) c.args ≡ Some saw → HasSeen (projected A B (Ok c)) saw
-    has_seen saw seen = subst (λ out. HasSeen out saw) (sym (with_views saw seen)) (seen_any saw (is_oneway B j n))
+    pub has_seen : (saw : Items) → view_arguments A (arguments (callee A c)) B (arguments (method_of B j n)) c.args ≡ Some saw → HasSeen (projected A B (Ok c)) saw
+    has_seen saw seen = subst (λ out. HasSeen out saw) (sym (with_views saw seen)) (seen_any saw (is_oneway (method_of B j n)))
 
-    module _ (saw : Items) (seen : view_arguments A (arguments A c.interface c.method) B (arguments B j n) c.args ≡ Some saw) (two_way : is_oneway B j n ≡ false)
+    module _ (saw : Items) (seen : view_arguments A (arguments (callee A c)) B (arguments (method_of B j n)) c.args ≡ Some saw) (two_way : is_oneway (method_of B j n) ≡ false)
         (result : Option Data) (outs : Items) (answered : answer_by c.target ≡ returned result outs) where
       abbrev done_by : Result AnswerData ℤ → LineData
       done_by got = done (Some saw) got
 
-      comes : projected A B (Ok c) ≡ done_by (seen_answer B j n A c.interface c.method (returned result outs))
-      comes = with_views saw seen ∙ ap (seen_by saw) two_way ∙ ap (λ a. done_by (seen_answer B j n A c.interface c.method a)) answered
+      comes : projected A B (Ok c) ≡ done_by (seen_answer (method_of B j n) (callee A c) (returned result outs))
+      comes = with_views saw seen ∙ ap (seen_by saw) two_way ∙ ap (λ a. done_by (seen_answer (method_of B j n) (callee A c) a)) answered
 
-      unseen : (first : Option (Option Data)) → view_result B (result_type B j n) A (result_type A c.interface c.method) result ≡ first
-          → (view_result B (result_type B j n) A (result_type A c.interface c.method) result ≡ None) ⊎ (view_values B (out_types B j n) A (out_types A c.interface c.method) outs ≡ None)
-          → seen_answer B j n A c.interface c.method (returned result outs) ≡ Err bad_value
+      unseen : (first : Option (Option Data)) → view_result B (result_type (method_of B j n)) A (result_type (callee A c)) result ≡ first
+          → (view_result B (result_type (method_of B j n)) A (result_type (callee A c)) result ≡ None) ⊎ (view_values B (out_types (method_of B j n)) A (out_types (callee A c)) outs ≡ None)
+          → seen_answer (method_of B j n) (callee A c) (returned result outs) ≡ Err bad_value
       unseen None e h = rw e refl
       unseen (Some r) e (inl h) = cc
       unseen (Some r) e (inr h) = rw (e, h) refl
 
-      pub unknown_answered : (view_result B (result_type B j n) A (result_type A c.interface c.method) result ≡ None)
-          ⊎ (view_values B (out_types B j n) A (out_types A c.interface c.method) outs ≡ None) → projected A B (Ok c) ≡ done (Some saw) (Err bad_value)
+      pub unknown_answered : (view_result B (result_type (method_of B j n)) A (result_type (callee A c)) result ≡ None)
+          ⊎ (view_values B (out_types (method_of B j n)) A (out_types (callee A c)) outs ≡ None) → projected A B (Ok c) ≡ done (Some saw) (Err bad_value)
       unknown_answered h = comes ∙ ap done_by (unseen _ refl h)
 
-      pub known_answered : (r : Option Data) (vs : Items) → view_result B (result_type B j n) A (result_type A c.interface c.method) result ≡ Some r
-          → view_values B (out_types B j n) A (out_types A c.interface c.method) outs ≡ Some vs → projected A B (Ok c) ≡ done (Some saw) (Ok (returned r vs))
+      pub known_answered : (r : Option Data) (vs : Items) → view_result B (result_type (method_of B j n)) A (result_type (callee A c)) result ≡ Some r
+          → view_values B (out_types (method_of B j n)) A (out_types (callee A c)) outs ≡ Some vs → projected A B (Ok c) ≡ done (Some saw) (Ok (returned r vs))
       known_answered r vs e h = comes ∙ ap done_by (rw (e, h) refl)

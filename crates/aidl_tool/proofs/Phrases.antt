@@ -10,12 +10,13 @@ use Rattle.aidl_tool.specs.Between.{AnswerSeen, Answered, ArgumentsSeen, HasSeen
 use Rattle.run_command.specs.Tags.{SchemasGive}
 use Rattle.call_runner.specs.Lines.{LineData, done, transport}
 use Rattle.call_runner.specs.Runs.{answer_by, projected}
-use Rattle.call_scripts.specs.Calls.{CallData, CallFits, TargetData, TargetFits, method_of_server}
+use Rattle.call_scripts.specs.Calls.{CallData, CallFits, TargetData, TargetFits, method_of_server, callee}
 use Rattle.run_command.specs.CallLines.{lines_of}
 use Rattle.run_command.specs.Projected.{projected_text}
 use Rattle.tool_frame.specs.Seen.{Seen}
 use Rattle.wire_model.proofs.lemmas.Seen.{arguments_seen_as, outs_seen_as, result_seen_as}
 use Rattle.wire_model.specs.Calls.{returned, arguments, out_types, result_type}
+use Rattle.wire_model.specs.MethodOf.{method_of}
 use Rattle.wire_model.specs.Outcome.{Reaches, view_arguments, view_result, view_values}
 use Rattle.wire_model.specs.Requests.{IsAnswer}
 use Rattle.wire_model.specs.Status.{bad_value, unknown_transaction}
@@ -37,34 +38,34 @@ module _ (p : Profile) (trace : Bool) (A B : List Decl) (text : List ℕ) (k : �
   pub lacking : LacksMethod A B c → Puts (transport unknown_transaction)
   lacking lacks = by_out (transport unknown_transaction) (unknown_method A B c lacks)
 
-  module _ (j n : ℕ) (there : Reaches A c.interface c.method B j n) where
+  module _ (j n : ℕ) (there : Reaches (callee A c) (method_of B j n)) where
     pub sent_unknown : IsUnknownSent A B c j n → Puts (transport bad_value)
     sent_unknown unknown =
-        by_out (transport bad_value) (unviewed A B c j n there (nothing (view_arguments A (arguments A c.interface c.method) B (arguments B j n) c.args)
+        by_out (transport bad_value) (unviewed A B c j n there (nothing (view_arguments A (arguments (callee A c)) B (arguments (method_of B j n)) c.args)
         (given.sent c.interface c.method j n c.args there fits.args.each ∙ unknown)))
 
-    views : IsKnownSent A B c j n → (saw : Items) × (view_arguments A (arguments A c.interface c.method) B (arguments B j n) c.args ≡ Some saw)
-    views known = something (view_arguments A (arguments A c.interface c.method) B (arguments B j n) c.args) (given.sent c.interface c.method j n c.args there fits.args.each ∙ known)
+    views : IsKnownSent A B c j n → (saw : Items) × (view_arguments A (arguments (callee A c)) B (arguments (method_of B j n)) c.args ≡ Some saw)
+    views known = something (view_arguments A (arguments (callee A c)) B (arguments (method_of B j n)) c.args) (given.sent c.interface c.method j n c.args there fits.args.each ∙ known)
 
     pub sent_known : IsKnownSent A B c j n → (saw : Items) × ArgumentsSeen A B c j n saw × HasSeen (projected A B (Ok c)) saw
     sent_known known =
         let v = views known in
-        (v.0, arguments_seen_as A B (arguments A c.interface c.method) (arguments B j n) c.args v.0 v.1, has_seen A B c j n there v.0 v.1)
+        (v.0, arguments_seen_as A B (arguments (callee A c)) (arguments (method_of B j n)) c.args v.0 v.1, has_seen A B c j n there v.0 v.1)
 
   module _ (j n : ℕ) (result : Option Data) (outs : Items) (answers : Answered B c j n result outs) where
     abbrev target : TargetData
     target = record { method = n; answer = returned result outs }
 
-    reaches : Reaches A c.interface c.method B j n
+    reaches : Reaches (callee A c) (method_of B j n)
     reaches =
-        let like : option_map (λ (t : TargetData). t.method) (Some target) ≡ method_of_server A B c.interface c.method (Some j) =
-        sym (ap (λ o. option_map (λ (t : TargetData). t.method) o) answers.target) ∙ fits.target ∙ ap (method_of_server A B c.interface c.method) answers.server in
+        let like : option_map (λ (t : TargetData). t.method) (Some target) ≡ method_of_server (callee A c) B (Some j) =
+        sym (ap (λ o. option_map (λ (t : TargetData). t.method) o) answers.target) ∙ fits.target ∙ ap (method_of_server (callee A c) B) answers.server in
         (fits.server.declared j answers.server, sym like)
 
     answered : answer_by c.target ≡ returned result outs
     answered = ap answer_by answers.target
 
-    is_answer : IsAnswer B j n (returned result outs)
+    is_answer : IsAnswer (method_of B j n) (returned result outs)
     is_answer =
         let target_fits : TargetFits B (Some j) (Some target) = subst (λ o. TargetFits B (Some j) o) answers.target (subst (λ s. TargetFits B s c.target) answers.server fits.answer) in
         target_fits.answer
@@ -73,10 +74,10 @@ module _ (p : Profile) (trace : Bool) (A B : List Decl) (text : List ℕ) (k : �
         → (saw : Items) × ArgumentsSeen A B c j n saw × (projected A B (Ok c) ≡ done (Some saw) (Err bad_value))
     answered_unknown known unknown =
         let v = views j n reaches known in
-        let missing = one_missing (view_result B (result_type B j n) A (result_type A c.interface c.method) result) (view_values B (out_types B j n) A (out_types A c.interface c.method) outs)
+        let missing = one_missing (view_result B (result_type (method_of B j n)) A (result_type (callee A c)) result) (view_values B (out_types (method_of B j n)) A (out_types (callee A c)) outs)
         (given.answered c.interface c.method j n result outs reaches is_answer ∙ unknown) in (
           v.0,
-          arguments_seen_as A B (arguments A c.interface c.method) (arguments B j n) c.args v.0 v.1,
+          arguments_seen_as A B (arguments (callee A c)) (arguments (method_of B j n)) c.args v.0 v.1,
           unknown_answered A B c j n reaches v.0 v.1 answers.two_way result outs answered missing,
         )
 
@@ -84,11 +85,11 @@ module _ (p : Profile) (trace : Bool) (A B : List Decl) (text : List ℕ) (k : �
         → (saw : Items) × (r : Option Data) × (vs : Items) × AnswerSeen A B c j n result outs r vs × (projected A B (Ok c) ≡ done (Some saw) (Ok (returned r vs)))
     answered_known known known_answer =
         let v = views j n reaches known in
-        let got = both_there (view_result B (result_type B j n) A (result_type A c.interface c.method) result) (view_values B (out_types B j n) A (out_types A c.interface c.method) outs)
+        let got = both_there (view_result B (result_type (method_of B j n)) A (result_type (callee A c)) result) (view_values B (out_types (method_of B j n)) A (out_types (callee A c)) outs)
         (given.answered c.interface c.method j n result outs reaches is_answer ∙ known_answer) in (
           v.0,
           got.0,
           got.1,
-          (result_seen_as B A (result_type B j n) (result_type A c.interface c.method) result got.0 got.2, outs_seen_as B A (out_types B j n) (out_types A c.interface c.method) outs got.1 got.3),
+          (result_seen_as B A (result_type (method_of B j n)) (result_type (callee A c)) result got.0 got.2, outs_seen_as B A (out_types (method_of B j n)) (out_types (callee A c)) outs got.1 got.3),
           known_answered A B c j n reaches v.0 v.1 answers.two_way result outs answered got.0 got.1 got.2 got.3,
         )

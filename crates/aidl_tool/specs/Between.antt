@@ -9,7 +9,7 @@ use Rattle.aidl_schema.specs.Find.{methods_at}
 use Rattle.aidl_schema.specs.declared.schema.Decl.{Decl}
 use Rattle.aidl_values.specs.Data.{Data, Items}
 use Rattle.call_runner.specs.Lines.{LineData, refused, transport, oneway, done}
-use Rattle.call_scripts.specs.Calls.{CallData}
+use Rattle.call_scripts.specs.Calls.{CallData, callee}
 use Rattle.call_scripts.specs.Script.{script}
 use Rattle.parcel_commands.specs.Decode.{profile_of}
 use Rattle.run_command.specs.CallLines.{lines_of}
@@ -22,6 +22,7 @@ use Rattle.tool_frame.specs.Verdict.{IsVerdict}
 use Rattle.tool_words.specs.Command.{Command, run}
 use Rattle.tree_commands.specs.Opens.{IsChecked}
 use Rattle.wire_model.specs.Calls.{returned, arguments, descriptor, is_oneway, method_at, out_types, result_type}
+use Rattle.wire_model.specs.MethodOf.{method_of}
 use Rattle.wire_model.specs.Outcome.{OneFollows, declared_as, method_like}
 use Rattle.wire_model.specs.SeenAs.{ArgumentsSeenAs, OutsSeenAs, ResultSeenAs}
 use Rattle.wire_model.specs.Unknown.{is_unknown_answered, is_unknown_sent}
@@ -89,34 +90,37 @@ abbrev pub LacksMethod : List Decl → List Decl → CallData → Type 0
 LacksMethod A B c =
     (declared_as B (descriptor A c.interface) ≡ None)
     ⊎ ((j : ℕ) × (declared_as B (descriptor A c.interface) ≡ Some j)
-    × (method_like (method_at A c.interface c.method) (methods_at B j) ≡ None))
+    × (method_like (method_at (callee A c)) (methods_at B j) ≡ None))
 
 -- Outside dropped fields a union tag in an argument is unknown to SERVER, whose method is n of its interface j; or
 -- none is.
 abbrev pub IsUnknownSent : List Decl → List Decl → CallData → ℕ → ℕ → Type 0
-IsUnknownSent A B c j n = is_unknown_sent A c.interface c.method B j n c.args ≡ true
+IsUnknownSent A B c j n = is_unknown_sent (callee A c) (method_of B j n) c.args ≡ true
 
 abbrev pub IsKnownSent : List Decl → List Decl → CallData → ℕ → ℕ → Type 0
-IsKnownSent A B c j n = is_unknown_sent A c.interface c.method B j n c.args ≡ false
+IsKnownSent A B c j n = is_unknown_sent (callee A c) (method_of B j n) c.args ≡ false
 
 -- a result and outs that the line says SERVER's method n of its interface j answers; the method isn't oneway
 pub record Answered (B : List Decl) (c : CallData) (j n : ℕ) (result : Option Data) (outs : Items) : Type 0 where
   pub server : c.server ≡ Some j
   pub target : c.target ≡ Some (record { method = n; answer = returned result outs })
-  pub two_way : is_oneway B j n ≡ false
+  pub two_way : is_oneway (method_of B j n) ≡ false
 
 -- Outside dropped fields a union tag in the result, or in an out, is unknown to CLIENT; or none is.
 abbrev pub IsUnknownAnswered : List Decl → List Decl → CallData → ℕ → ℕ → Option Data → Items → Type 0
-IsUnknownAnswered A B c j n result outs = is_unknown_answered A c.interface c.method B j n result outs ≡ true
+IsUnknownAnswered A B c j n result outs =
+    is_unknown_answered (callee A c) (method_of B j n) result outs ≡ true
 
 abbrev pub IsKnownAnswered : List Decl → List Decl → CallData → ℕ → ℕ → Option Data → Items → Type 0
-IsKnownAnswered A B c j n result outs = is_unknown_answered A c.interface c.method B j n result outs ≡ false
+IsKnownAnswered A B c j n result outs =
+    is_unknown_answered (callee A c) (method_of B j n) result outs ≡ false
 
 -- what the handler saw of the arguments that were sent, and what the client has of the result and the outs
 abbrev pub ArgumentsSeen : List Decl → List Decl → CallData → ℕ → ℕ → Items → Type 0
-ArgumentsSeen A B c j n saw = ArgumentsSeenAs A (arguments A c.interface c.method) B (arguments B j n) c.args saw
+ArgumentsSeen A B c j n saw =
+    ArgumentsSeenAs A (arguments (callee A c)) B (arguments (method_of B j n)) c.args saw
 
 abbrev pub AnswerSeen : List Decl → List Decl → CallData → ℕ → ℕ → Option Data → Items → Option Data → Items → Type 0
 AnswerSeen A B c j n result outs r vs =
-    ResultSeenAs B (result_type B j n) A (result_type A c.interface c.method) result r
-    × OutsSeenAs B (out_types B j n) A (out_types A c.interface c.method) outs vs
+    ResultSeenAs B (result_type (method_of B j n)) A (result_type (callee A c)) result r
+    × OutsSeenAs B (out_types (method_of B j n)) A (out_types (callee A c)) outs vs

@@ -14,6 +14,7 @@ use Rattle.aidl_tool.specs.Between.{AnswerSeen, Answered, ArgumentsSeen, CallRun
 use Rattle.aidl_tool.specs.Between.{IsKnownSent, IsUnknownAnswered, IsUnknownSent, LacksMethod, Prints}
 use Rattle.call_runner.specs.Lines.{transport, done}
 use Rattle.call_runner.specs.Runs.{projected}
+use Rattle.call_scripts.specs.Calls.{callee}
 use Rattle.parcel_commands.specs.Decode.{profile_of}
 use Rattle.run_command.specs.CallLines.{lines_of}
 use Rattle.run_command.specs.Projected.{projected_text}
@@ -24,6 +25,7 @@ use Rattle.tool_frame.specs.Verdict.{IsVerdict}
 use Rattle.tool_words.specs.Command.{Command, judge, run}
 use Rattle.tree_commands.specs.Judged.{judged}
 use Rattle.wire_model.specs.Calls.{returned}
+use Rattle.wire_model.specs.MethodOf.{method_of}
 use Rattle.wire_model.specs.Outcome.{OneFollows, Reaches}
 use Rattle.wire_model.specs.Status.{bad_value, unknown_transaction}
 
@@ -45,7 +47,8 @@ pub record Headline (words : Option Command) (before now : Seen) (exit : ℕ) (f
   -- common fields unchanged, and documented defaults for what the sender lacks: in what the handler sees, and in
   -- what the client has, of the line that `prints_each` says is printed
   pub seen_sent : (x : CallRun words before exit files) (j n : ℕ)
-      → Reaches x.client x.call.interface x.call.method x.server j n → IsKnownSent x.client x.server x.call j n
+      → Reaches (callee x.client x.call) (method_of x.server j n)
+      → IsKnownSent x.client x.server x.call j n
       → (saw : Items) × ArgumentsSeen x.client x.server x.call j n saw
       × HasSeen (projected x.client x.server (Ok x.call)) saw
   pub seen_answered : (x : CallRun words before exit files) (j n : ℕ) (result : Option Data) (outs : Items)
@@ -58,7 +61,8 @@ pub record Headline (words : Option Command) (before now : Seen) (exit : ℕ) (f
       → Prints x now (transport unknown_transaction)
   -- BAD_VALUE for a union tag unknown there outside dropped fields: the transport's status, or the client's
   pub bad_value_sent : (x : CallRun words before exit files) (j n : ℕ)
-      → Reaches x.client x.call.interface x.call.method x.server j n → IsUnknownSent x.client x.server x.call j n
+      → Reaches (callee x.client x.call) (method_of x.server j n)
+      → IsUnknownSent x.client x.server x.call j n
       → Prints x now (transport bad_value)
   pub bad_value_answered : (x : CallRun words before exit files) (j n : ℕ) (result : Option Data) (outs : Items)
       → Answered x.server x.call j n result outs

@@ -1,3 +1,4 @@
+pub mod AnswerData
 pub mod Data
 pub mod Default
 pub mod Ends

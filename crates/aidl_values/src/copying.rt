@@ -1,5 +1,6 @@
-//! Copies of values, of elements and of fields.
+//! Copies of values, of elements, of fields and of results.
 ghost use Rattle.std.specs.Prelude.{◌≡◌, map, IfOk};
+ghost use Rattle.aidl_values.specs.AnswerData.{optional_view};
 ghost use Rattle.aidl_values.specs.Data.{alt};
 ghost use Rattle.aidl_values.specs.View.{datas, field_datas, short_datas, view};
 
@@ -89,7 +90,7 @@ fn copy_short(alloc: Global, short: &ShortFields) -> Result<ShortFields, OutOfMe
 }
 
 #[cycle(copy)]
-fn copy_values(alloc: Global, values: &[Value]) -> Result<Row<Value>, OutOfMemory>
+pub(crate) fn copy_values(alloc: Global, values: &[Value]) -> Result<Row<Value>, OutOfMemory>
     ensures { IfOk result (λ vs. map view vs ≡ map view values.now) }
 {
     let mut copies = Vec::with_capacity(alloc, values.len())?;
@@ -97,4 +98,19 @@ fn copy_values(alloc: Global, values: &[Value]) -> Result<Row<Value>, OutOfMemor
         copies.push(copy(alloc, value)?)?;
     }
     Ok(Row::from_vec(copies))
+}
+
+pub(crate) fn copy_result(
+    alloc: Global,
+    value: &Option<Value>,
+) -> Result<Option<Value>, OutOfMemory>
+    ensures { IfOk result (λ v. optional_view v ≡ optional_view value.now) }
+{
+    match value {
+        Some(value) => {
+            let copied = copy(alloc, value)?;
+            Ok(Some(copied))
+        }
+        None => Ok(None),
+    }
 }

@@ -1,8 +1,9 @@
 //! Values, and the answers of handlers.
 ghost use Rattle.std.specs.Prelude.{◌≡◌, IfOk};
+ghost use Rattle.aidl_values.specs.AnswerData.{answer_of};
 ghost use Rattle.aidl_values.specs.View.{view};
 
-use crate::copying::copy;
+use crate::copying::{copy, copy_result, copy_values};
 use crate::places::Places;
 use aidl_base::{OutOfMemory, Row, Text};
 use std::alloc::Global;
@@ -88,4 +89,31 @@ pub enum Answer {
         message: Text,
         error: i32,
     },
+}
+
+impl Answer {
+    /// An answer equal to this one.
+    pub fn try_clone(&self, alloc: Global) -> Result<Answer, OutOfMemory>
+        ensures { IfOk result (λ a. answer_of a ≡ answer_of self.now) }
+    {
+        match self {
+            Answer::Returned { result, outs } => {
+                let result = copy_result(alloc, result)?;
+                let outs = copy_values(alloc, outs.as_slice())?;
+                Ok(Answer::Returned { result, outs })
+            }
+            Answer::Exception {
+                code,
+                message,
+                error,
+            } => {
+                let message = message.try_clone(alloc)?;
+                Ok(Answer::Exception {
+                    code: *code,
+                    message,
+                    error: *error,
+                })
+            }
+        }
+    }
 }

@@ -53,18 +53,18 @@ checked_goes root files (Ok p) S answer is h = inr (S, is, h)
 checked_goes root files (Err (Answered p)) S answer is h = inr (S, is, h)
 checked_goes root files (Err OutOfMemory) S answer is h = tt
 
--- what is given once the parcel, the versions, the version and its hash are found
+-- what is given once the parcel and the versions are found
 module _ (w : Words) (file : Found (List ℕ)) (versions : Found (List Version)) (r : Result Printed Early) (parcel : List ℕ) (read : parcel_of file ≡ Ok parcel) where
   pub by_parcel : GivesOne r (AsksParcel w versions parcel) → GivesOne r (AsksFile w file versions)
   by_parcel h = then_goes r (parcel_of file) parcel (AsksParcel w versions) read h
 
-  module _ (vs : List Version) (all : versions ≡ Ok vs) where
-    pub by_versions : GivesOne r (AsksVersion w parcel vs) → GivesOne r (AsksFile w file versions)
-    by_versions h = by_parcel (then_goes r versions vs (AsksVersion w parcel) all h)
+  pub by_versions : (vs : List Version) → versions ≡ Ok vs → GivesOne r (AsksVersion w parcel vs) → GivesOne r (AsksFile w file versions)
+  by_versions vs all h = by_parcel (then_goes r versions vs (AsksVersion w parcel) all h)
 
-    module _ (v : Version) (found : version_found w.version vs ≡ Ok v) where
-      pub by_version : GivesOne r (Then (whole_found v) (AsksHash w parcel v)) → GivesOne r (AsksFile w file versions)
-      by_version h = by_versions (then_goes r (version_found w.version vs) v (λ v. Then (whole_found v) (AsksHash w parcel v)) found h)
+-- and once the version and its hash are found
+module _ (w : Words) (parcel : List ℕ) (versions : List Version) (r : Result Printed Early) (v : Version) (found : version_found w.version versions ≡ Ok v) where
+  pub by_version : GivesOne r (Then (whole_found v) (AsksHash w parcel v)) → GivesOne r (AsksVersion w parcel versions)
+  by_version h = then_goes r (version_found w.version versions) v (λ v. Then (whole_found v) (AsksHash w parcel v)) found h
 
-      pub by_hash : (hash : List ℕ) → whole_found v ≡ Ok hash → GivesOne r (AsksHash w parcel v hash) → GivesOne r (AsksFile w file versions)
-      by_hash hash whole h = by_version (then_goes r (whole_found v) hash (AsksHash w parcel v) whole h)
+  pub by_hash : (hash : List ℕ) → whole_found v ≡ Ok hash → GivesOne r (AsksHash w parcel v hash) → GivesOne r (AsksVersion w parcel versions)
+  by_hash hash whole h = by_version (then_goes r (whole_found v) hash (AsksHash w parcel v) whole h)

@@ -20,6 +20,7 @@ use Rattle.stub_dispatch.specs.Unscripted.{not_scripted}
 use Rattle.stub_dispatch.specs.declared.answered.Answered.{Answered}
 use Rattle.wire_model.specs.Calls.{AnswerData, answer_of, arguments, descriptor}
 use Rattle.wire_model.specs.MetaStub.{MetaReceived, inner, meta_by, own, own_reply}
+use Rattle.wire_model.specs.MethodOf.{method_of}
 use Rattle.wire_model.specs.ReadOf.{◌>>=◌}
 use Rattle.wire_model.specs.Receiver.{Received, left, called, stub, token_at}
 use Rattle.wire_model.specs.Typed.{AreArguments, types_of}
@@ -31,7 +32,7 @@ module _ {E : Type 0} (post : ℕ → Bor (List Value) → Result Answer E → T
   received (called m saw) h =
       let values = h.0 in
       let call = h.2 in
-      let replied : AnswerData → Answered = λ x. record { transport = pos 0; saw = Some values; reply = sent_reply S i m x } in
+      let replied : AnswerData → Answered = λ x. record { transport = pos 0; saw = Some values; reply = sent_reply (method_of S i m) x } in
       (values, h.1, call.4 ∙ ap replied (says m call.0 call.1 call.3))
 
   pub answers : (r : Result MetaReceived ℤ) → MetaAnswers post S i a r → IsAnswered S i r a
@@ -46,7 +47,7 @@ module _ (S : List Decl) (i code : ℕ) (b : List ℕ) where
 
   -- its arguments have their types
   abbrev IsTyped : Type 0
-  IsTyped = (m : ℕ) (saw : Items) → stub Strict S i code b ≡ Ok (called m saw) → AreArguments S i m saw
+  IsTyped = (m : ℕ) (saw : Items) → stub Strict S i code b ≡ Ok (called m saw) → AreArguments (method_of S i m) saw
 
   -- nothing was seen
   unseen : (o : Option (List Value)) → o ≡ None → IsSeenBy S i code o
@@ -73,7 +74,7 @@ module _ (S : List Decl) (i code : ℕ) (b : List ℕ) where
   seen_received a (Ok (left m)) is typed coded h = unseen a.saw (ap (λ (x : Answered). x.saw) h)
   seen_received a (Ok (called m saw)) is typed coded h =
       let values = h.0 in
-      subst (λ (x : Answered). IsSeenBy S i code x.saw) (sym h.2) (m, coded m saw is, subst (λ vs. AreArguments S i m vs) (sym h.1) (typed m saw is))
+      subst (λ (x : Answered). IsSeenBy S i code x.saw) (sym h.2) (m, coded m saw is, subst (λ vs. AreArguments (method_of S i m) vs) (sym h.1) (typed m saw is))
 
   seen_own : (item : List ℕ) (a : Answered) (r : Result (List ℕ) ℤ) → IsAnswered S i (as_own item r) a → IsSeenBy S i code a.saw
   seen_own item a (Err status) h = unseen a.saw (ap (λ (x : Answered). x.saw) h)
@@ -100,10 +101,10 @@ module _ (S : List Decl) (i code : ℕ) (b : List ℕ) where
   received_is a (Ok (left m)) is coded h = ap text_of h ∙ printed_unseen (pos 0) _
   received_is a (Ok (called m saw)) is coded h =
       let values = h.0 in
-      let reply = sent_reply S i m not_scripted in
+      let reply = sent_reply (method_of S i m) not_scripted in
       ap text_of h.2
       ∙ ap (λ o. lines (pos 0) (saw_of S i o (Some (views values))) reply) (coded m saw is)
-      ∙ ap (λ vs. lines (pos 0) (values_text S (types_of (arguments S i m)) vs) reply) h.1
+      ∙ ap (λ vs. lines (pos 0) (values_text S (types_of (arguments (method_of S i m))) vs) reply) h.1
 
   text_is_by : (told : Option (List ℕ)) (a : Answered) → IsCoded → IsAnswered S i (meta_by S i code b told) a → text_of a ≡ meta_text S i (meta_by S i code b told)
   text_is_by (Some item) a coded h = own_is item a (token_at Strict (descriptor S i) b) h

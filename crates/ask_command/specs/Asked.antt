@@ -13,6 +13,7 @@ use Rattle.tool_frame.specs.Answer.{Answer, ◌>>=◌, Found, Then, limit_passed
 use Rattle.tool_frame.specs.Shown.{shown}
 use Rattle.wire_model.specs.Calls.{arguments}
 use Rattle.wire_model.specs.MetaStub.{MetaReceived, inner, meta_stub, own}
+use Rattle.wire_model.specs.MethodOf.{method_of}
 use Rattle.wire_model.specs.Receiver.{Received, left, called}
 use Rattle.wire_model.specs.Typed.{types_of}
 use Rattle.aidl_base.specs.declared.limit.LimitName.TheVariants.{TextBytes}
@@ -40,9 +41,10 @@ lines transport saw reply = codes "transport " ++ signed_decimal transport ++ co
 
 -- of what a stub received: the handler sees nothing, or the values of its arguments, and answers `not scripted`
 abbrev pub received_text : List Decl → ℕ → Received → List ℕ
-received_text S i (left m) = lines (pos 0) (codes "null") (sent_reply S i m unread)
+received_text S i (left m) = lines (pos 0) (codes "null") (sent_reply (method_of S i m) unread)
 received_text S i (called m saw) =
-    lines (pos 0) (values_text S (types_of (arguments S i m)) saw) (sent_reply S i m not_scripted)
+    lines (pos 0) (values_text S (types_of (arguments (method_of S i m))) saw)
+    (sent_reply (method_of S i m) not_scripted)
 
 -- of what a service received that answers for the version and the hash too: of a refusal the status alone, of a
 -- reply of its own no handler's arguments

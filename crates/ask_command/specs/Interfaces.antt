@@ -8,26 +8,27 @@ use Rattle.aidl_schema.specs.Find.{interface_named}
 use Rattle.meta_calls.specs.Reserved.{reserved_method}
 use Rattle.tool_frame.specs.Answer.{Answer, Found, negative}
 use Rattle.wire_model.specs.Calls.{descriptor, method_at}
+use Rattle.wire_model.specs.MethodOf.{MethodOf, method_of}
 
 -- a method's name in UTF-8
 abbrev pub name_of : Option Method → List ℕ
 name_of None = []
 name_of (Some method) = encode_utf8_all method.name.0
 
-abbrev pub method_name : List Decl → ℕ → ℕ → List ℕ
-method_name S i m = name_of (method_at S i m)
+abbrev pub method_name : MethodOf → List ℕ
+method_name m = name_of (method_at m)
 
 -- the name of the interface, a dot and the name of the method
-abbrev pub full_name : List Decl → ℕ → ℕ → List ℕ
-full_name S i m = encode_utf8_all (descriptor S i) ++ codes "." ++ method_name S i m
+abbrev pub full_name : MethodOf → List ℕ
+full_name m = encode_utf8_all (descriptor m.declarations m.interface) ++ codes "." ++ method_name m
 
 -- `collision NAME`: a method has a name that the service answers for itself
-abbrev pub collision : List Decl → ℕ → ℕ → Answer
-collision S i m = negative (codes "collision " ++ full_name S i m)
+abbrev pub collision : MethodOf → Answer
+collision m = negative (codes "collision " ++ full_name m)
 
 abbrev pub unless_reserved : List Decl → ℕ → Option ℕ → Found ℕ
 unless_reserved S i None = Ok i
-unless_reserved S i (Some m) = Err (collision S i m)
+unless_reserved S i (Some m) = Err (collision (method_of S i m))
 
 -- an interface without such a method
 abbrev pub without_collision : List Decl → ℕ → Found ℕ

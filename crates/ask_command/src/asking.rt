@@ -1,7 +1,7 @@
 //! The command `ask`: one request to a version of an API.
 ghost use Rattle.tool_frame.specs.Due.{AsksFileThen};
 ghost use Rattle.tool_frame.specs.Outside.{LinkSeen, seen_beside};
-ghost use Rattle.ask_command.specs.Asked.{AskAnswers, AsksFile, words_seen};
+ghost use Rattle.ask_command.specs.Asked.{AskAnswers, AsksFile, AsksVersion, words_seen};
 ghost use Rattle.ask_command.specs.steps.Asking.{AreAsked, IsUnasked, all_of};
 ghost use Rattle.api_versions.specs.Asks.{AsksVersions};
 ghost use Rattle.tool_frame.specs.Ended.{Ended};
@@ -87,12 +87,7 @@ fn ask_versions(
 {
     let parcel = parcel_of(alloc, file)?;
     let versions = all_numbered(alloc, versions)?;
-    let version = version_found(alloc, asked.version, versions)?;
-    let hash = whole_found(alloc, &version)?;
-    let Version { files, .. } = version;
-    let root = version_folder(alloc, asked.api, asked.version)?;
-    let schema = check_tree(alloc, root.as_str(), files)?;
-    ask_answer(alloc, &schema, asked, hash, parcel.as_slice())
+    ask_version(alloc, asked, versions, parcel.as_slice())
 }
 
 // The versions; else the line `bad versions`.
@@ -103,6 +98,23 @@ fn all_numbered(alloc: Global, versions: Result<Row<Version>, u32>) -> Result<Ro
         Ok(versions) => Ok(versions),
         Err(missing) => Err(bad_versions(alloc, missing)),
     }
+}
+
+// What is answered of a parcel by the version that is asked.
+fn ask_version(
+    alloc: Global,
+    asked: AskWords<'_>,
+    versions: Row<Version>,
+    parcel: &[u8],
+) -> Result<Printed, Early>
+    ensures { GivesOne result (AsksVersion (words_seen asked.entry) parcel.now versions) }
+{
+    let version = version_found(alloc, asked.version, versions)?;
+    let hash = whole_found(alloc, &version)?;
+    let Version { files, .. } = version;
+    let root = version_folder(alloc, asked.api, asked.version)?;
+    let schema = check_tree(alloc, root.as_str(), files)?;
+    ask_answer(alloc, &schema, asked, hash, parcel)
 }
 
 /// What `ask` prints of a request, by the schema of the version and the hash that it keeps: `no interface NAME`; `collision NAME` where a

@@ -2,6 +2,7 @@
 ghost use Rattle.std.specs.Prelude.{◌≡◌};
 ghost use Rattle.ask_command.specs.Interfaces as step;
 ghost use Rattle.tool_frame.specs.Results.{EndsAs, Finds};
+ghost use Rattle.wire_model.specs.MethodOf.{method_of};
 
 use aidl_schema::{Schema, interface_named, methods_at};
 use growing::GrowingText;
@@ -26,7 +27,7 @@ pub fn interface_found(alloc: Global, schema: &Schema, name: &str) -> Result<u32
 
 // The end where a method of an interface has a reserved name.
 fn collision(alloc: Global, schema: &Schema, interface: u32, method: u32) -> Early
-    ensures { EndsAs result (step.collision schema.now.decls interface method) }
+    ensures { EndsAs result (step.collision (method_of schema.now.decls interface method)) }
 {
     match descriptor_of(alloc, schema, interface) {
         Ok(descriptor) => {
@@ -44,7 +45,7 @@ fn collision(alloc: Global, schema: &Schema, interface: u32, method: u32) -> Ear
 
 // The name of a method, and no text where it isn't there.
 fn method_name(schema: &Schema, interface: u32, method: u32) -> &str
-    ensures { result.now ≡ step.method_name schema.now.decls interface method }
+    ensures { result.now ≡ step.method_name (method_of schema.now.decls interface method) }
 {
     match methods_at(schema, interface).get(method as usize) {
         Some(method) => method.name.0.as_str(),

@@ -5,8 +5,9 @@ use Rattle.aidl_schema.specs.declared.schema.Method.{Method}
 use Rattle.aidl_schema.specs.Find.{methods_of_decl}
 use Rattle.aidl_schema.specs.Holds.{AllHold}
 use Rattle.wire_model.specs.Calls.{code_at, code_of, method_at}
+use Rattle.wire_model.specs.MethodOf.{method_of}
 
-pub small_id : (S : List Decl) → AllHold S → (i m id : ℕ) → option_map (λ w. w.id) (method_at S i m) ≡ Some id → id ≤ 16777114
+pub small_id : (S : List Decl) → AllHold S → (i m id : ℕ) → option_map (λ w. w.id) (method_at (method_of S i m)) ≡ Some id → id ≤ 16777114
 small_id S holds i m id e = by_decl (slice_get S i) refl e
   where
     by_method : (d : Decl) → slice_get S i ≡ Some d → (o : Option Method) → slice_get (methods_of_decl (Some d)) m ≡ o → option_map (λ w. w.id) o ≡ Some id → id ≤ 16777114
@@ -17,15 +18,15 @@ small_id S holds i m id e = by_decl (slice_get S i) refl e
     by_decl None at e = cc
     by_decl (Some d) at e = by_method d at (slice_get (methods_of_decl (Some d)) m) refl e
 
-pub code_is : (S : List Decl) (i m id : ℕ) → option_map (λ w. w.id) (method_at S i m) ≡ Some id → id + 1 ≡ code_at S i m
-code_is S i m id e = by_method (method_at S i m) e
+pub code_is : (S : List Decl) (i m id : ℕ) → option_map (λ w. w.id) (method_at (method_of S i m)) ≡ Some id → id + 1 ≡ code_at (method_of S i m)
+code_is S i m id e = by_method (method_at (method_of S i m)) e
   where
     by_method : (o : Option Method) → option_map (λ w. w.id) o ≡ Some id → id + 1 ≡ code_of o
     by_method None e = cc
     by_method (Some w) e = let same : id ≡ w.id = cc in ap (λ k. k + 1) same
 
-pub code_none : (S : List Decl) (i m : ℕ) → option_map (λ w. w.id) (method_at S i m) ≡ None → 0 ≡ code_at S i m
-code_none S i m e = by_method (method_at S i m) e
+pub code_none : (S : List Decl) (i m : ℕ) → option_map (λ w. w.id) (method_at (method_of S i m)) ≡ None → 0 ≡ code_at (method_of S i m)
+code_none S i m e = by_method (method_at (method_of S i m)) e
   where
     by_method : (o : Option Method) → option_map (λ w. w.id) o ≡ None → 0 ≡ code_of o
     by_method None e = refl

@@ -12,6 +12,7 @@ use Rattle.call_scripts.specs.Calls.{TargetData}
 use Rattle.stub_dispatch.specs.Answers.{Answers}
 use Rattle.stub_dispatch.specs.declared.answered.Answered.{Answered}
 use Rattle.wire_model.specs.Calls.{answer_of}
+use Rattle.wire_model.specs.MethodOf.{method_of}
 use Rattle.wire_model.specs.Receiver.{Received, left, called}
 
 pub serves : {E : Type 0} (post : ℕ → Bor (List Value) → Result Answer E → Type 0) (B : List Decl) (j : ℕ) (target : Option TargetData) (a : Answered) (r : Result Received ℤ)
@@ -25,4 +26,4 @@ serves post B j target a (Ok (called m saw)) says h =
     let answer = call.1 in
     let same = says m call.0 answer call.3 in
     subst (λ (x : Answered). IsServed B (Some j) target (Ok (called m saw)) x) (sym call.4)
-    (record { transport = refl; saw = ap (λ vs. let o : Option Items = Some vs in o) h.1; reply = ap (sent_reply B j m) same })
+    (record { transport = refl; saw = ap (λ vs. let o : Option Items = Some vs in o) h.1; reply = ap (sent_reply (method_of B j m)) same })

@@ -10,16 +10,17 @@ use Rattle.aidl_schema.specs.declared.schema.Decl.{Decl}
 use Rattle.aidl_values.specs.Data.{Items}
 use Rattle.call_scripts.specs.Refusal.{Refusal}
 use Rattle.stub_dispatch.specs.Sent.{sent_reply, unread}
-use Rattle.call_scripts.specs.Calls.{CallData, TargetData}
+use Rattle.call_scripts.specs.Calls.{CallData, TargetData, callee}
 use Rattle.stub_dispatch.specs.Unscripted.{not_scripted}
 use Rattle.wire_model.specs.Calls.{AnswerData, code_at}
+use Rattle.wire_model.specs.MethodOf.{method_of}
 use Rattle.wire_model.specs.Receiver.{Received, left, called, stub, client}
 use Rattle.wire_model.specs.Requests.{request}
 use Rattle.wire_model.specs.Status.{unknown_transaction}
 
 -- the transaction code of the call
 abbrev pub call_code : List Decl → CallData → ℕ
-call_code A c = code_at A c.interface c.method
+call_code A c = code_at (callee A c)
 
 -- what SERVER makes of a request: UNKNOWN_TRANSACTION where it lacks the interface, or else what its stub makes of it
 abbrev pub received_at : Profile → List Decl → Option ℕ → ℕ → List ℕ → Result Received ℤ
@@ -38,8 +39,8 @@ scripted (Some t) m = if t.method == m then t.answer else not_scripted
 abbrev pub reply_at : List Decl → Option ℕ → Option TargetData → Result Received ℤ → Option (List ℕ)
 reply_at B server target (Err status) = None
 reply_at B None target (Ok r) = None
-reply_at B (Some j) target (Ok (left m)) = sent_reply B j m unread
-reply_at B (Some j) target (Ok (called m saw)) = sent_reply B j m (scripted target m)
+reply_at B (Some j) target (Ok (left m)) = sent_reply (method_of B j m) unread
+reply_at B (Some j) target (Ok (called m saw)) = sent_reply (method_of B j m) (scripted target m)
 
 abbrev pub reply_sent : Profile → List Decl → List Decl → CallData → List ℕ → Option (List ℕ)
 reply_sent p A B c b = reply_at B c.server c.target (received p A B c b)
@@ -51,7 +52,7 @@ reply_entries code (Some sent) r = entry Reply code sent r ∷ []
 
 -- the request that is carried
 abbrev pub request_entry : List Decl → CallData → List ℕ → Carried
-request_entry A c b = entry Request (call_code A c) (request A c.interface c.method c.args) b
+request_entry A c b = entry Request (call_code A c) (request (callee A c) c.args) b
 
 -- *What is carried*: the request, and then the reply where one is sent
 abbrev pub entries : Profile → List Decl → List Decl → CallData → List ℕ → List ℕ → List Carried
@@ -78,4 +79,4 @@ reported (Ok r) (Some sent) got = done (saw_of r) got
 
 -- *What is reported*
 abbrev pub line_of : Profile → List Decl → List Decl → CallData → List ℕ → List ℕ → LineData
-line_of p A B c b r = reported (received p A B c b) (reply_sent p A B c b) (client p A c.interface c.method r)
+line_of p A B c b r = reported (received p A B c b) (reply_sent p A B c b) (client p (callee A c) r)

@@ -16,8 +16,9 @@ use Rattle.aidl_values.specs.View.{views}
 use Rattle.aidl_values.specs.declared.value.Value.{Value}
 use Rattle.call_scripts.specs.Refusal.{Judged}
 use Rattle.stub_dispatch.specs.Got.{got_of}
-use Rattle.call_scripts.specs.Calls.{CallData, TargetData, refusal_of}
+use Rattle.call_scripts.specs.Calls.{CallData, TargetData, callee, refusal_of}
 use Rattle.wire_model.specs.Calls.{AnswerData, returned}
+use Rattle.wire_model.specs.MethodOf.{method_of}
 use Rattle.wire_model.specs.Outcome.{Done, outcome, outcome_within}
 use Rattle.wire_model.specs.Outcome as calls
 use Rattle.wire_model.specs.Receiver.{Received, left, called}
@@ -77,12 +78,13 @@ RunCause before now (Err OutOfMemory) = now ≡ before
 -- What the handler saw, where it was called, has the types of the arguments of SERVER's method.
 abbrev pub AreSeen : List Decl → Methods → Option (List Value) → Type 0
 AreSeen B m None = Unit {0}
-AreSeen B m (Some saw) = AreArguments B m.server m.called (views saw)
+AreSeen B m (Some saw) = AreArguments (method_of B m.server m.called) (views saw)
 
 -- an answer that the client has is one of CLIENT's method
 abbrev pub IsGotBy : List Decl → Methods → Result AnswerData ℤ → Type 0
 IsGotBy A m (Err status) = Unit {0}
-IsGotBy A m (Ok answer) = (m.method < length (methods_at A m.interface)) × IsGot A m.interface m.method answer
+IsGotBy A m (Ok answer) =
+    (m.method < length (methods_at A m.interface)) × IsGot (method_of A m.interface m.method) answer
 
 -- the values of a line have the types of its methods
 abbrev pub IsTyped : List Decl → List Decl → Option Methods → LineOut → Type 0
@@ -108,12 +110,12 @@ seen_line (Ok (calls.done saw got)) = done (Some saw) got
 -- other, over a link that delivers what was sent: its refusal, or the *Outcome* of its call
 abbrev pub projected : List Decl → List Decl → Judged CallData → LineData
 projected A B (Err why) = refused why
-projected A B (Ok c) = seen_line (outcome A c.interface c.method B c.args (answer_by c.target))
+projected A B (Ok c) = seen_line (outcome (callee A c) B c.args (answer_by c.target))
 
 -- *A faithful call over one tree*: the handler sees what was sent, and the client has what was answered
 abbrev pub within_one : List Decl → Judged CallData → LineData
 within_one S (Err why) = refused why
-within_one S (Ok c) = seen_line (Ok (outcome_within S c.interface c.method c.args (answer_by c.target)))
+within_one S (Ok c) = seen_line (Ok (outcome_within (callee S c) c.args (answer_by c.target)))
 
 -- what is delivered of a reply is what was sent
 abbrev pub IsReplied : Option (List ℕ) → List ℕ → Type 0

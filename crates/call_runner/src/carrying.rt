@@ -6,8 +6,9 @@ ghost use Rattle.aidl_outside.specs.Parcel.{parcel, parcel_of};
 ghost use Rattle.call_runner.specs.Lines.{reply_entries, request_entry};
 ghost use Rattle.call_runner.specs.Runs.{IsFirst, RunCause};
 ghost use Rattle.call_runner.specs.steps.Exchanges.{AddsListed, AddsOne, CanBeSent, IfLinkFailed, delivered_of, listed};
-ghost use Rattle.call_scripts.specs.Calls.{call_of};
+ghost use Rattle.call_scripts.specs.Calls.{call_of, callee};
 ghost use Rattle.wire_model.specs.Calls.{code_at, method_at};
+ghost use Rattle.wire_model.specs.MethodOf.{method_of};
 ghost use Rattle.wire_model.specs.Requests.{request};
 
 use crate::line::RunFault;
@@ -43,9 +44,8 @@ pub fn send_request<L: Link>(
 // The bytes of the request of a call. They are few enough, so nothing but memory may lack.
 fn request_bytes(alloc: Global, client: &Side<'_>, call: &Call) -> Result<Vec<u8>, OutOfMemory>
     requires sendable { CanBeSent client.now (call_of call.now) }
-    ensures { IfOk result (λ bytes. bytes.items
-        ≡ request client.now
-        (call_of call.now).interface (call_of call.now).method (call_of call.now).args) }
+    ensures { IfOk result (λ bytes. bytes.items ≡ request (callee client.now (call_of call.now))
+        (call_of call.now).args) }
 {
     let args = call.args.as_slice();
     let callee = Callee::new(client, call.interface, call.method);
@@ -57,7 +57,7 @@ fn request_bytes(alloc: Global, client: &Side<'_>, call: &Call) -> Result<Vec<u8
 
 // The transaction code of a method.
 fn code_of(schema: &Schema, interface: u32, method: u32) -> u32
-    ensures { result ≡ code_at schema.now.decls interface method }
+    ensures { result ≡ code_at (method_of schema.now.decls interface method) }
 {
     law_valid(schema);
     match id_of(schema, interface, method) {
@@ -68,7 +68,8 @@ fn code_of(schema: &Schema, interface: u32, method: u32) -> u32
 
 // The id of a method, where it is there.
 fn id_of(schema: &Schema, interface: u32, method: u32) -> Option<u32>
-    ensures { result ≡ option_map (λ w. w.id) (method_at schema.now.decls interface method) }
+    ensures { result ≡ option_map (λ w. w.id)
+        (method_at (method_of schema.now.decls interface method)) }
 {
     match methods_at(schema, interface).get(method as usize) {
         Some(method) => Some(method.id),

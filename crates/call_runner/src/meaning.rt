@@ -6,8 +6,9 @@ ghost use Rattle.aidl_values.specs.View.{views};
 ghost use Rattle.call_runner.specs.Lines.{line_of, received, received_at, reply_sent};
 ghost use Rattle.call_runner.specs.Runs.{IsReplied, NamesOf, answer_by, methods_by, projected, within_one};
 ghost use Rattle.call_runner.specs.steps.Typed.{IsTypedLine};
-ghost use Rattle.call_scripts.specs.Calls.{CallFits, call_of, target_of};
+ghost use Rattle.call_scripts.specs.Calls.{CallFits, call_of, callee, target_of};
 ghost use Rattle.wire_model.specs.Calls.{answer_of, code_at};
+ghost use Rattle.wire_model.specs.MethodOf.{method_of};
 ghost use Rattle.wire_model.specs.Outcome.{OneFollows};
 ghost use Rattle.wire_model.specs.Receiver.{called, stub};
 ghost use Rattle.wire_model.specs.Requests.{request};
@@ -27,7 +28,7 @@ pub fn law_received(profile: Profile, server: &Schema, call: &Call, code: u32, b
         → s ≢ pos 0 }
     ensures typed { (j n : ℕ) (saw : Items) → call.now.server ≡ Some j
         → stub profile server.now.decls j code bytes.now ≡ Ok (called n saw)
-        → AreArguments server.now.decls j n saw }
+        → AreArguments (method_of server.now.decls j n) saw }
 {
     if let Some(other) = call.server {
         law_stub(profile, server, other, code, bytes);
@@ -45,7 +46,7 @@ pub fn law_typed(
     reply: &[u8],
 )
     requires there { call.now.method < length (methods_at client.now.decls call.now.interface) }
-    requires code { code ≡ code_at client.now.decls call.now.interface call.now.method }
+    requires code { code ≡ code_at (callee client.now.decls (call_of call.now)) }
     ensures { IsTypedLine client.now.decls server.now.decls
         (methods_by (call_of call.now) call.now.server
         (received profile client.now.decls server.now.decls (call_of call.now) bytes.now))
@@ -66,8 +67,8 @@ pub fn law_projected(
     reply: &[u8],
 )
     requires fits { CallFits client.now.decls server.now.decls (call_of call.now) }
-    requires sent { sent.now
-        ≡ request client.now.decls call.now.interface call.now.method (views call.now.args) }
+    requires sent { sent.now ≡ request (callee client.now.decls (call_of call.now))
+        (views call.now.args) }
     ensures outcome { OneFollows client.now.decls server.now.decls
         → IsReplied
         (reply_sent profile client.now.decls server.now.decls (call_of call.now) sent.now) reply.now
@@ -115,8 +116,8 @@ fn law_projected_at(
     requires fits { CallFits client.now.decls server.now.decls (call_of call.now) }
     requires server { call.now.server ≡ Some other }
     requires answer { answer_of answer.now ≡ answer_by (option_map target_of call.now.target) }
-    requires sent { sent.now
-        ≡ request client.now.decls call.now.interface call.now.method (views call.now.args) }
+    requires sent { sent.now ≡ request (callee client.now.decls (call_of call.now))
+        (views call.now.args) }
     ensures outcome { OneFollows client.now.decls server.now.decls
         → IsReplied
         (reply_sent profile client.now.decls server.now.decls (call_of call.now) sent.now) reply.now

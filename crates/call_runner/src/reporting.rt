@@ -7,7 +7,7 @@ ghost use Rattle.call_runner.specs.Lines.{line_of, received, received_at};
 ghost use Rattle.call_runner.specs.Runs.{line_data, methods_by};
 ghost use Rattle.call_runner.specs.steps.Exchanges.{IsExchange, carried_of, delivered_of};
 ghost use Rattle.call_runner.specs.steps.Served.{transport_of, unreplied_line};
-ghost use Rattle.call_scripts.specs.Calls.{call_of};
+ghost use Rattle.call_scripts.specs.Calls.{call_of, callee};
 ghost use Rattle.wire_model.specs.Calls.{is_oneway};
 ghost use Rattle.wire_model.specs.Receiver as receiver;
 ghost use Rattle.wire_model.specs.Receiver.{stub};
@@ -33,8 +33,8 @@ pub fn report(
 ) -> Result<LineRun, OutOfMemory>
     requires there { call.now.method < length (find.methods_at client.now call.now.interface) }
     requires exchange { IsExchange profile client.now server.now (call_of call.now) exchange }
-    requires two_way { exchange.reply ≢ None
-        → is_oneway client.now call.now.interface call.now.method ≡ false }
+    requires two_way { exchange.reply ≢ None → is_oneway (callee client.now (call_of call.now))
+        ≡ false }
     requires refused { (s : ℤ)
         → received profile client.now server.now (call_of call.now) exchange.request.delivered
         ≡ Err s → s ≢ pos 0 }
@@ -87,9 +87,9 @@ fn got_by(
     bytes: &[u8],
 ) -> Result<Got, OutOfMemory>
     requires there { call.now.method < length (find.methods_at client.now call.now.interface) }
-    requires two_way { is_oneway client.now call.now.interface call.now.method ≡ false }
-    ensures { IfOk result (λ got. got_of got
-        ≡ receiver.client profile client.now call.now.interface call.now.method bytes.now) }
+    requires two_way { is_oneway (callee client.now (call_of call.now)) ≡ false }
+    ensures { IfOk result (λ got. got_of got ≡ receiver.client profile
+        (callee client.now (call_of call.now)) bytes.now) }
 {
     let callee = Callee::new(client, call.interface, call.method);
     read_answer(alloc, profile, &callee, bytes)

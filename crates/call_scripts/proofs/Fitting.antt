@@ -28,6 +28,7 @@ use Rattle.json_values.specs.Refusal as reading
 use Rattle.json_values.proofs.Fits.{FitsAs, OptionHasTexts, found_texts, from_json_fits}
 use Rattle.json_values.proofs.Texts.{HasTexts, HaveTexts, MembersHaveTexts}
 use Rattle.wire_model.specs.Calls.{AnswerData, returned, exception, arguments, is_oneway, is_out, out_types, result_type}
+use Rattle.wire_model.specs.MethodOf.{method_of}
 use Rattle.wire_model.specs.Requests.{ArgumentsFit, EachFits, ExceptionFits, IsAnswer, IsLength, ResultFits, asked_length, number_or_0, sent_length, service_specific, sum_of_lengths}
 use Rattle.call_scripts.specs.Answers.{Thrown, all_known, answer_from, answer_keys, are_in_range, default_outs, exception_from, is_alone, object_from, oneway_from, outs_from, result_from, returned_from, thrown_of, thrown_or_returned, two_way_from, unknown_in, values_from, whole}
 use Rattle.call_scripts.specs.Arguments.{args_from, array_from, counted_entries, entries_from, entry_from, length_from, null_from}
@@ -109,7 +110,7 @@ module _ (S : List Decl) where
   IsAnswerAs t ts (returned r vs) = ResultFits S t r × EachFits S ts vs
   IsAnswerAs t ts (exception code message error) = ExceptionFits code message error
 
-  pub answers_as : (i m : ℕ) (a : AnswerData) → IsAnswerAs (result_type S i m) (out_types S i m) a → IsAnswer S i m a
+  pub answers_as : (i m : ℕ) (a : AnswerData) → IsAnswerAs (result_type (method_of S i m)) (out_types (method_of S i m)) a → IsAnswer (method_of S i m) a
   answers_as i m (returned r vs) h = h
   answers_as i m (exception code message error) h = h
 
@@ -295,17 +296,17 @@ module _ (S : List Decl) (hold : AllHold S) (sound : IsSound S) (steady : AreSte
     two_way_fits (Some (json.array js)) texts = tt
     two_way_fits (Some (json.object ms)) texts = object_fits ms texts
 
-  oneway_fits : (i m : ℕ) (o : Option json.Data) → IsAnswer S i m (returned None none) → IfOk (oneway_from o) (IsAnswer S i m)
+  oneway_fits : (i m : ℕ) (o : Option json.Data) → IsAnswer (method_of S i m) (returned None none) → IfOk (oneway_from o) (IsAnswer (method_of S i m))
   oneway_fits i m None h = h
   oneway_fits i m (Some j) h = tt
 
-  way_case : (b : Bool) (i m : ℕ) (o : Option json.Data) → is_oneway S i m ≡ b → OptionHasTexts o
-      → IfOk (if b then oneway_from o else two_way_from S (result_type S i m) (out_types S i m) o) (IsAnswer S i m)
+  way_case : (b : Bool) (i m : ℕ) (o : Option json.Data) → is_oneway (method_of S i m) ≡ b → OptionHasTexts o
+      → IfOk (if b then oneway_from o else two_way_from S (result_type (method_of S i m)) (out_types (method_of S i m)) o) (IsAnswer (method_of S i m))
   way_case true i m o is texts = oneway_fits i m o ((typed S hold i m).oneway is)
   way_case false i m o is texts =
       let w = typed S hold i m in
-      weaken (IsAnswerAs S (result_type S i m) (out_types S i m)) (IsAnswer S i m) (two_way_from S (result_type S i m) (out_types S i m) o) (answers_as S i m)
-      (two_way_fits (result_type S i m) (out_types S i m) w.returned (passed_outs S (arguments S i m) w.passed) o texts)
+      weaken (IsAnswerAs S (result_type (method_of S i m)) (out_types (method_of S i m))) (IsAnswer (method_of S i m)) (two_way_from S (result_type (method_of S i m)) (out_types (method_of S i m)) o) (answers_as S i m)
+      (two_way_fits (result_type (method_of S i m)) (out_types (method_of S i m)) w.returned (passed_outs S (arguments (method_of S i m)) w.passed) o texts)
 
-  pub answer_fits : (i m : ℕ) (o : Option json.Data) → OptionHasTexts o → IfOk (answer_from S i m o) (IsAnswer S i m)
-  answer_fits i m o texts = way_case (is_oneway S i m) i m o refl texts
+  pub answer_fits : (i m : ℕ) (o : Option json.Data) → OptionHasTexts o → IfOk (answer_from (method_of S i m) o) (IsAnswer (method_of S i m))
+  answer_fits i m o texts = way_case (is_oneway (method_of S i m)) i m o refl texts

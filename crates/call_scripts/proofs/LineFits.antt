@@ -18,6 +18,7 @@ use Rattle.json_values.proofs.Fits.{OptionHasTexts, found_texts}
 use Rattle.json_values.proofs.ParsedTexts.{parsed_texts}
 use Rattle.json_values.proofs.Texts.{HasTexts, MembersHaveTexts}
 use Rattle.wire_model.specs.Calls.{arguments}
+use Rattle.wire_model.specs.MethodOf.{method_of}
 use Rattle.wire_model.specs.Requests.{AnswerFits, ArgumentsFit, IsAnswer, reply, request, sum_of_lengths}
 use Rattle.call_scripts.specs.Answers.{all_known, answer_from, unknown_in}
 use Rattle.call_scripts.specs.Arguments.{args_from}
@@ -50,7 +51,7 @@ found P name at (Some x) h = h
 record AreNumbers (A B : List Decl) (n : Named) : Type 0 where
   pub there : n.method < length (methods_at A n.interface)
   pub server : IsServer A B n.interface n.server
-  pub target : n.target ≡ method_of_server A B n.interface n.method n.server
+  pub target : n.target ≡ method_of_server (method_of A n.interface n.method) B n.server
   pub within : IsWithin B n.server n.target
 
 module _ (A B : List Decl) where
@@ -83,32 +84,32 @@ module _ (A B : List Decl) where
 
 -- SERVER's method's number, and its answer
 abbrev IsTargetOf : List Decl → ℕ → ℕ → TargetData → Type 0
-IsTargetOf S j k t = (t.method ≡ k) × AnswerFits S j t.method t.answer
+IsTargetOf S j k t = (t.method ≡ k) × AnswerFits (method_of S j t.method) t.answer
 
 -- the method of these numbers where it is there, and its answer
 abbrev IsTargetAs : List Decl → Option ℕ → Option ℕ → Option TargetData → Type 0
 IsTargetAs S server target t = (option_map (λ (x : TargetData). x.method) t ≡ target) × TargetFits S server t
 
 module _ (S : List Decl) (hold : AllHold S) (sound : IsSound S) (steady : AreSteady S) where
-  sent_fits : (i m : ℕ) (o : Option json.Data) → OptionHasTexts o → IfOk (sent_from S i m o) (IsSent S i m)
+  sent_fits : (i m : ℕ) (o : Option json.Data) → OptionHasTexts o → IfOk (sent_from (method_of S i m) o) (IsSent (method_of S i m))
   unfolding sent_from
   sent_fits i m o texts =
-      goes_on (λ vs. ArgumentsFit S (arguments S i m) vs × (sum_of_lengths (arguments S i m) vs ≤ 65536)) (IsSent S i m) (args_from S (arguments S i m) o)
-      (λ args. unless (nat_le (length (request S i m args)) 1048576) TooLarge at_args >>= (λ small. Ok args)) (args_fit S hold sound steady (arguments S i m) o texts)
-      (λ args fit. tested (IsSent S i m) (nat_le (length (request S i m args)) 1048576) at_args args
-      (λ is. record { fit = record { each = fit.0; few = fit.1 }; small = small_enough (length (request S i m args)) is }))
+      goes_on (λ vs. ArgumentsFit S (arguments (method_of S i m)) vs × (sum_of_lengths (arguments (method_of S i m)) vs ≤ 65536)) (IsSent (method_of S i m)) (args_from S (arguments (method_of S i m)) o)
+      (λ args. unless (nat_le (length (request (method_of S i m) args)) 1048576) TooLarge at_args >>= (λ small. Ok args)) (args_fit S hold sound steady (arguments (method_of S i m)) o texts)
+      (λ args fit. tested (IsSent (method_of S i m)) (nat_le (length (request (method_of S i m) args)) 1048576) at_args args
+      (λ is. record { fit = record { each = fit.0; few = fit.1 }; small = small_enough (length (request (method_of S i m) args)) is }))
 
-  answered_fits : (j k : ℕ) (o : Option json.Data) → OptionHasTexts o → IfOk (answered S j k o) (IsTargetOf S j k)
+  answered_fits : (j k : ℕ) (o : Option json.Data) → OptionHasTexts o → IfOk (answered (method_of S j k) o) (IsTargetOf S j k)
   unfolding answered
   answered_fits j k o texts =
-      goes_on (IsAnswer S j k) (IsTargetOf S j k) (answer_from S j k o)
-      (λ answer. unless (nat_le (length (reply S j k answer)) 1048576) TooLarge at_answer >>= (λ small. Ok (record { method = k; answer = answer }))) (answer_fits S hold sound steady j k o texts)
-      (λ answer fits. tested (IsTargetOf S j k) (nat_le (length (reply S j k answer)) 1048576) at_answer (record { method = k; answer = answer })
-      (λ is. (refl, record { answer = fits; small = small_enough (length (reply S j k answer)) is })))
+      goes_on (IsAnswer (method_of S j k)) (IsTargetOf S j k) (answer_from (method_of S j k) o)
+      (λ answer. unless (nat_le (length (reply (method_of S j k) answer)) 1048576) TooLarge at_answer >>= (λ small. Ok (record { method = k; answer = answer }))) (answer_fits S hold sound steady j k o texts)
+      (λ answer fits. tested (IsTargetOf S j k) (nat_le (length (reply (method_of S j k) answer)) 1048576) at_answer (record { method = k; answer = answer })
+      (λ is. (refl, record { answer = fits; small = small_enough (length (reply (method_of S j k) answer)) is })))
 
   target_fits : (server target : Option ℕ) (o : Option json.Data) → IsWithin S server target → OptionHasTexts o → IfOk (target_from S server target o) (IsTargetAs S server target)
   target_fits (Some j) (Some k) o within texts =
-      goes_on (IsTargetOf S j k) (IsTargetAs S (Some j) (Some k)) (answered S j k o) (λ t. Ok (Some t)) (answered_fits j k o texts) (λ t fits. (ap Some fits.0, fits.1))
+      goes_on (IsTargetOf S j k) (IsTargetAs S (Some j) (Some k)) (answered (method_of S j k) o) (λ t. Ok (Some t)) (answered_fits j k o texts) (λ t fits. (ap Some fits.0, fits.1))
   target_fits (Some j) None o within texts = (refl, tt)
   target_fits None (Some k) o within texts = absurd within
   target_fits None None o within texts = (refl, tt)
@@ -122,16 +123,16 @@ module _ (A B : List Decl) (hold_A : AllHold A) (hold_B : AllHold B) (sound_A : 
     with_args c args = target_from B c.server c.target (get_member (codes "answer") ms) >>= (λ target. Ok (call_of_parts c args target))
 
     abbrev with_name : Named → Judged CallData
-    with_name c = sent_from A c.interface c.method (get_member (codes "args") ms) >>= with_args c
+    with_name c = sent_from (method_of A c.interface c.method) (get_member (codes "args") ms) >>= with_args c
 
-    whole_call : (c : Named) (args : Items) (target : Option TargetData) → AreNumbers A B c → IsSent A c.interface c.method args → IsTargetAs B c.server c.target target
+    whole_call : (c : Named) (args : Items) (target : Option TargetData) → AreNumbers A B c → IsSent (method_of A c.interface c.method) args → IsTargetAs B c.server c.target target
         → CallFits A B (call_of_parts c args target)
     whole_call c args target numbers sent is =
         record { there = numbers.there; args = sent.fit; small = sent.small; server = numbers.server; target = is.0 ∙ numbers.target; answer = is.1 }
 
     named_call : (c : Named) → AreNumbers A B c → IfOk (with_name c) (CallFits A B)
     named_call c numbers =
-        goes_on (IsSent A c.interface c.method) (CallFits A B) (sent_from A c.interface c.method (get_member (codes "args") ms)) (with_args c)
+        goes_on (IsSent (method_of A c.interface c.method)) (CallFits A B) (sent_from (method_of A c.interface c.method) (get_member (codes "args") ms)) (with_args c)
         (sent_fits A hold_A sound_A steady_A c.interface c.method (get_member (codes "args") ms) (found_texts (codes "args") ms texts))
         (λ args sent. goes_on (IsTargetAs B c.server c.target) (CallFits A B) (target_from B c.server c.target (get_member (codes "answer") ms))
         (λ target. Ok (call_of_parts c args target))

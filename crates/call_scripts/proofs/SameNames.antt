@@ -9,6 +9,7 @@ use Rattle.aidl_schema.specs.Find.{interface_named, methods_at}
 use Rattle.aidl_schema.specs.Names.{bytes_of, name_of}
 use Rattle.aidl_schema.specs.Same.{same_text}
 use Rattle.wire_model.specs.Calls.{descriptor, name_of_decl}
+use Rattle.wire_model.specs.MethodOf.{method_of}
 use Rattle.wire_model.specs.Outcome.{declared_as, method_like}
 use Rattle.wire_model.proofs.lemmas.NamedTexts.{by_bytes, number_declared, same_position}
 use Rattle.call_scripts.specs.Calls.{IsServer, method_of_server}
@@ -36,7 +37,7 @@ is_server A B name i e =
 like : (v : Method) (ws : List Method) → position_named ws (bytes_of v.name) ≡ method_like (Some v) ws
 like v ws = same_position (λ w. same_text (bytes_of w.name) (bytes_of v.name)) (λ w. same_method v w) (λ w. by_bytes v.name.0 w.name.0) ws
 
-pub is_target : (A B : List Decl) (i m : ℕ) (name : List ℕ) (server : Option ℕ) → method_named A i name ≡ Some m → target_named B server name ≡ method_of_server A B i m server
+pub is_target : (A B : List Decl) (i m : ℕ) (name : List ℕ) (server : Option ℕ) → method_named A i name ≡ Some m → target_named B server name ≡ method_of_server (method_of A i m) B server
 is_target A B i m name None e = refl
 is_target A B i m name (Some j) e =
     let v = found (λ w. same_text (bytes_of w.name) name) (methods_at A i) m e in

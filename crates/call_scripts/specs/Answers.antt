@@ -19,6 +19,7 @@ use Rattle.aidl_values.specs.View.{items_of}
 use Rattle.json_values.specs.FromJson.{from_json_of, is_null}
 use Rattle.json_values.specs.Refusal.{escaped}
 use Rattle.wire_model.specs.Calls.{AnswerData, returned, exception, is_oneway, out_types, result_type}
+use Rattle.wire_model.specs.MethodOf.{MethodOf}
 use Rattle.wire_model.specs.Requests.{service_specific}
 use Rattle.call_scripts.specs.declared.refused.RefusedName.TheVariants.{WrongShape, OutOfRange, UnknownKey}
 use Rattle.call_scripts.specs.Refusal.{Judged, ◌>>=◌, refuse, unless, placed, at_answer, at_exception, at_return}
@@ -135,6 +136,6 @@ abbrev pub oneway_from : Option json.Data → Judged AnswerData
 oneway_from None = Ok (returned None none)
 oneway_from (Some j) = refuse WrongShape at_answer
 
--- of method m of interface i
-abbrev pub answer_from : List Decl → ℕ → ℕ → Option json.Data → Judged AnswerData
-answer_from S i m j = if is_oneway S i m then oneway_from j else two_way_from S (result_type S i m) (out_types S i m) j
+-- of the method m
+abbrev pub answer_from : MethodOf → Option json.Data → Judged AnswerData
+answer_from m j = if is_oneway m then oneway_from j else two_way_from m.declarations (result_type m) (out_types m) j

@@ -6,6 +6,7 @@ use Rattle.aidl_schema.specs.Find.{interface_named, methods_at}
 use Rattle.aidl_values.specs.Data.{Items}
 use Rattle.aidl_values.specs.View.{views}
 use Rattle.wire_model.specs.Calls.{AnswerData, answer_of, descriptor, method_at}
+use Rattle.wire_model.specs.MethodOf.{MethodOf, method_of}
 use Rattle.wire_model.specs.Outcome.{declared_as, method_like}
 use Rattle.wire_model.specs.Requests.{AnswerFits, ArgsFit, request}
 use Rattle.call_scripts.specs.declared.script.Call.{Call}
@@ -27,6 +28,10 @@ pub record CallData : Type 0 where
   -- SERVER's interface of that name, where it has one
   pub server : Option ℕ
   pub target : Option TargetData
+
+-- the method of CLIENT's declarations A that is called
+abbrev pub callee : List Decl → CallData → MethodOf
+callee A c = method_of A c.interface c.method
 
 abbrev pub target_of : Target → TargetData
 target_of t = record { method = t.method; answer = answer_of t.answer }
@@ -53,23 +58,23 @@ pub record IsServer (A B : List Decl) (i : ℕ) (server : Option ℕ) : Type 0 w
   pub named : server ≡ interface_named B (encode_utf8_all (descriptor A i))
   pub declared : (j : ℕ) → server ≡ Some j → declared_as B (descriptor A i) ≡ Some j
 
--- SERVER's method of the same name as CLIENT's, where it has the interface
-abbrev pub method_of_server : List Decl → List Decl → ℕ → ℕ → Option ℕ → Option ℕ
-method_of_server A B i m server = option_and_then (λ j. method_like (method_at A i m) (methods_at B j)) server
+-- SERVER's method of the same name as CLIENT's method a, where it has the interface
+abbrev pub method_of_server : MethodOf → List Decl → Option ℕ → Option ℕ
+method_of_server a B server = option_and_then (λ j. method_like (method_at a) (methods_at B j)) server
 
 -- an answer of SERVER's method, whose reply is small enough
 abbrev pub TargetFits : List Decl → Option ℕ → Option TargetData → Type 0
-TargetFits B (Some j) (Some t) = AnswerFits B j t.method t.answer
+TargetFits B (Some j) (Some t) = AnswerFits (method_of B j t.method) t.answer
 TargetFits B None (Some t) = ⊥
 TargetFits B server None = Unit {0}
 
 -- what a call between CLIENT's declarations A and SERVER's B has
 pub record CallFits (A B : List Decl) (c : CallData) : Type 0 where
   pub there : c.method < length (methods_at A c.interface)
-  pub args : ArgsFit A c.interface c.method c.args
-  pub small : length (request A c.interface c.method c.args) ≤ 1048576
+  pub args : ArgsFit (callee A c) c.args
+  pub small : length (request (callee A c) c.args) ≤ 1048576
   pub server : IsServer A B c.interface c.server
-  pub target : option_map (λ t. t.method) c.target ≡ method_of_server A B c.interface c.method c.server
+  pub target : option_map (λ t. t.method) c.target ≡ method_of_server (callee A c) B c.server
   pub answer : TargetFits B c.server c.target
 
 -- a refusal, or such a call

@@ -7,6 +7,7 @@ use Rattle.aidl_schema.specs.declared.schema.Decl.{Decl}
 use Rattle.aidl_values.specs.Data.{Items}
 use Rattle.json_values.specs.JsonText.{parsed_json}
 use Rattle.wire_model.specs.Calls.{arguments}
+use Rattle.wire_model.specs.MethodOf.{MethodOf, method_of}
 use Rattle.wire_model.specs.Requests.{reply, request}
 use Rattle.call_scripts.specs.declared.refused.RefusedName.{RefusedName}
 use Rattle.call_scripts.specs.declared.refused.RefusedName.TheVariants.{NotJson, WrongShape, UnknownMethod, TooLarge}
@@ -35,16 +36,16 @@ text_from (Some (json.string s)) = Ok s
 text_from _ = refuse WrongShape at_call
 
 -- SERVER's method, and its answer, whose reply is small enough
-unfoldable pub answered : List Decl → ℕ → ℕ → Option json.Data → Judged TargetData
-answered B j k found = do
-  answer ← answer_from B j k found  -- the refusals of the answer
-  small ← unless (nat_le (length (reply B j k answer)) 1048576) TooLarge at_answer  -- a long reply
-  Ok (record { method = k; answer = answer })
+unfoldable pub answered : MethodOf → Option json.Data → Judged TargetData
+answered m found = do
+  answer ← answer_from m found  -- the refusals of the answer
+  small ← unless (nat_le (length (reply m answer)) 1048576) TooLarge at_answer  -- a long reply
+  Ok (record { method = m.method; answer = answer })
 
 -- where SERVER lacks the method, `answer` isn't looked at
 abbrev pub target_from : List Decl → Option ℕ → Option ℕ → Option json.Data → Judged (Option TargetData)
 target_from B (Some j) (Some k) found = do
-  target ← answered B j k found
+  target ← answered (method_of B j k) found
   Ok (Some target)
 target_from B (Some j) None found = Ok None
 target_from B None target found = Ok None
@@ -56,10 +57,11 @@ named_from A B found = do
   or_refuse UnknownMethod at_call (method_meant A B text)  -- it names no method of CLIENT
 
 -- the arguments, whose request is small enough
-unfoldable pub sent_from : List Decl → ℕ → ℕ → Option json.Data → Judged Items
-sent_from A i m found = do
-  args ← args_from A (arguments A i m) found  -- no array or a wrong count; and the refusals of the entries
-  small ← unless (nat_le (length (request A i m args)) 1048576) TooLarge at_args  -- a long request
+unfoldable pub sent_from : MethodOf → Option json.Data → Judged Items
+sent_from m found = do
+  -- no array or a wrong count; and the refusals of the entries
+  args ← args_from m.declarations (arguments m) found
+  small ← unless (nat_le (length (request m args)) 1048576) TooLarge at_args  -- a long request
   Ok args
 
 -- of the line's object
@@ -67,7 +69,7 @@ unfoldable pub call_from : List Decl → List Decl → json.Members → Judged C
 call_from A B ms = do
   known ← all_known [] (unknown_in line_keys ms)  -- the least key other than the three
   c ← named_from A B (get_member (codes "call") ms)
-  args ← sent_from A c.interface c.method (get_member (codes "args") ms)
+  args ← sent_from (method_of A c.interface c.method) (get_member (codes "args") ms)
   target ← target_from B c.server c.target (get_member (codes "answer") ms)
   Ok (record { interface = c.interface; method = c.method; args = args; server = c.server; target = target })
 

@@ -5,6 +5,7 @@ ghost use Rattle.aidl_values.specs.Data.{none};
 ghost use Rattle.aidl_values.specs.View.{views};
 ghost use Rattle.serde_json.specs.View.{view as json_view, members_view};
 ghost use Rattle.wire_model.specs.Calls.{answer_of, returned};
+ghost use Rattle.wire_model.specs.MethodOf.{method_of};
 ghost use Rattle.wire_model.specs.Requests.{IsAnswer};
 ghost use Rattle.call_scripts.specs.Answers as answers;
 ghost use Rattle.call_scripts.specs.Calls.{CallFits, ScriptFits, call_of, script_data, target_of};
@@ -158,10 +159,11 @@ fn sent_from(
     json: Option<&Json>,
 ) -> Result<Row<Value>, Fault<RefusedName>>
     requires there { named.now.method < length (methods_at side.now named.now.interface) }
-    ensures gives { Gives views result (meant.sent_from side.now
-        named.now.interface named.now.method (option_map (λ j. json_view j.now) json.entry)) }
-    ensures sent { IfOk result (λ vs. IsSent side.now named.now.interface named.now.method
-        (views vs)) }
+    ensures gives { Gives views result (meant.sent_from
+        (method_of side.now named.now.interface named.now.method)
+        (option_map (λ j. json_view j.now) json.entry)) }
+    ensures sent { IfOk result (λ vs. IsSent
+        (method_of side.now named.now.interface named.now.method) (views vs)) }
 {
     let callee = Callee::new(side, named.interface, named.method);
     let declared = callee.declared();
@@ -216,10 +218,9 @@ fn answered(
     callee: &Callee<'_>,
     json: Option<&Json>,
 ) -> Result<Target, Fault<RefusedName>>
-    ensures gives { Gives target_of result (meant.answered callee.now.decls
-        callee.now.interface callee.now.method (option_map (λ j. json_view j.now) json.entry)) }
-    ensures fits { IfOk result (λ t. IsAnswered
-        callee.now.decls callee.now.interface callee.now.method t) }
+    ensures gives { Gives target_of result (meant.answered callee.now
+        (option_map (λ j. json_view j.now) json.entry)) }
+    ensures fits { IfOk result (λ t. IsAnswered callee.now t) }
 {
     let answer = answer_from(alloc, callee, json)?;
     if is_small(reply_length(callee, &answer, sent_bytes() + 1)) {
@@ -236,10 +237,9 @@ fn answer_from(
     callee: &Callee<'_>,
     json: Option<&Json>,
 ) -> Result<Answer, Fault<RefusedName>>
-    ensures gives { Gives answer_of result (answers.answer_from callee.now.decls
-        callee.now.interface callee.now.method (option_map (λ j. json_view j.now) json.entry)) }
-    ensures fits { IfOk result (λ a. IsAnswer
-        callee.now.decls callee.now.interface callee.now.method (answer_of a)) }
+    ensures gives { Gives answer_of result (answers.answer_from callee.now
+        (option_map (λ j. json_view j.now) json.entry)) }
+    ensures fits { IfOk result (λ a. IsAnswer callee.now (answer_of a)) }
 {
     let schema = callee.schema();
     law_types(schema, callee.interface(), callee.method());

@@ -31,6 +31,7 @@ use Rattle.aidl_values.specs.Sound.{initial_in, IsSound}
 use Rattle.wire_model.specs.Outcome.{declared_as}
 use Rattle.wire_model.specs.ReadOf.{Read, read_of}
 use Rattle.wire_model.specs.Calls.{descriptor, arguments}
+use Rattle.wire_model.specs.MethodOf.{method_of}
 use Rattle.wire_model.specs.Requests.{ArgsFit, argument_parts, request, token}
 use Rattle.wire_model.specs.Spell.{spell}
 use Rattle.wire_model.specs.Spell as sent
@@ -157,19 +158,19 @@ module _ (A B : List Decl) (sound_A : IsSound A) (sound_B : IsSound B) (holds_B 
   value high = rec (with_value A high k fs)
 
   abbrev pub sent_small : Bool → Type 0
-  sent_small high = length (request A i m (item (value high) none)) ≤ 1048576
+  sent_small high = length (request (method_of A i m) (item (value high) none)) ≤ 1048576
 
   typed : (high : Bool) → FieldsHaveType A fs (with_value A high k fs)
   typed high = with_typed A high k fs plain_f ((is_whole A sound_A).fields r.a.ty.base fs form_a).1
 
-  pub value_fits : (high : Bool) → ArgsFit A i m (item (value high) none)
+  pub value_fits : (high : Bool) → ArgsFit (method_of A i m) (item (value high) none)
   value_fits high = args_fit A B holds_B i m r.decl r.method r.here r.at r.other r.like r.id r.a r.b r.only_a r.only_b r.in_a r.in_b (value high)
       (record { typed = (one_a, fs, form_a, typed high); deep = omega (arith, flat_fields A fs (with_value A high k fs) plain_f (typed high)) })
 
   value_small : (high : Bool) → sent_small high → length (spell A r.a.ty (value high)) ≤ 1048576
   value_small high small =
       let part = part_is A B holds_B i m r.decl r.method r.here r.at r.other r.like r.id r.a r.b r.only_a r.only_b r.in_a r.in_b (value high) in
-      omega (arith, length-append (token (descriptor A i)) (argument_parts A (arguments A i m) (item (value high) none)), ap length part)
+      omega (arith, length-append (token (descriptor A i)) (argument_parts A (arguments (method_of A i m)) (item (value high) none)), ap length part)
 
   -- what is read of it
   value_read : (high : Bool) → sent_small high → read_of Strict B 64 r.b.ty false (spell A r.a.ty (value high)) ≡ Ok (rec (positional B fs gs (with_value A high k fs)), [])
@@ -195,7 +196,7 @@ module _ (A B : List Decl) (sound_A : IsSound A) (sound_B : IsSound B) (holds_B 
 
   -- So one of the two shows that the names differ.
   pub value_differs : (field_seen false ≡ Some (plain_value false f.ty.base) → ⊥) ⊎ (field_seen false ≡ Some (plain_value true f.ty.base) → ⊥)
-      → (high : Bool) × (sent_small high → read_request A i m B (request A i m (item (value high) none)) ≡ projected_request A i m B (item (value high) none) → ⊥)
+      → (high : Bool) × (sent_small high → read_request (method_of A i m) B (request (method_of A i m) (item (value high) none)) ≡ projected_request (method_of A i m) B (item (value high) none) → ⊥)
   value_differs (inl h) = (
     false,
     λ small.

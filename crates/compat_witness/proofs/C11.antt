@@ -30,6 +30,7 @@ use Rattle.aidl_values.specs.Sound.{initial_in, HaveDefaults, IsSound}
 use Rattle.wire_model.specs.Outcome.{declared_as}
 use Rattle.wire_model.specs.ReadOf.{Read, read_of}
 use Rattle.wire_model.specs.Calls.{descriptor, arguments}
+use Rattle.wire_model.specs.MethodOf.{method_of}
 use Rattle.wire_model.specs.Reads.{Reads, FieldsRead}
 use Rattle.wire_model.specs.Requests.{ArgsFit, argument_parts, request, token}
 use Rattle.wire_model.specs.Spell.{spell, spell_fields, body}
@@ -165,17 +166,17 @@ module _ (A B : List Decl) (sound_A : IsSound A) (sound_B : IsSound B) (holds_A 
   typed : FieldsHaveType A fs (with_value A false k fs)
   typed = with_typed A false k fs plain_f have_a
 
-  pub value_fits : ArgsFit A i m (item value none)
+  pub value_fits : ArgsFit (method_of A i m) (item value none)
   value_fits = args_fit A B holds_B i m r.decl r.method r.here r.at r.other r.like r.id r.a r.b r.only_a r.only_b r.in_a r.in_b value
       (record { typed = (one_a, fs, form_a, typed); deep = omega (arith, flat_fields A fs (with_value A false k fs) plain_f typed) })
 
-  value_small : length (request A i m (item value none)) ≤ 1048576 → length (spell A r.a.ty value) ≤ 1048576
+  value_small : length (request (method_of A i m) (item value none)) ≤ 1048576 → length (spell A r.a.ty value) ≤ 1048576
   value_small small =
       let part = part_is A B holds_B i m r.decl r.method r.here r.at r.other r.like r.id r.a r.b r.only_a r.only_b r.in_a r.in_b value in
-      omega (arith, length-append (token (descriptor A i)) (argument_parts A (arguments A i m) (item value none)), ap length part)
+      omega (arith, length-append (token (descriptor A i)) (argument_parts A (arguments (method_of A i m)) (item value none)), ap length part)
 
   -- it is read to the end
-  value_read : length (request A i m (item value none)) ≤ 1048576 → (ws : Items) × (read_of Strict B 64 r.b.ty false (spell A r.a.ty value) ≡ Ok (rec ws, []))
+  value_read : length (request (method_of A i m) (item value none)) ≤ 1048576 → (ws : Items) × (read_of Strict B 64 r.b.ty false (spell A r.a.ty value) ≡ Ok (rec ws, []))
   value_read small =
       let vs = with_value A false k fs in
       let inner = spell_fields A fs vs in
@@ -202,7 +203,7 @@ module _ (A B : List Decl) (sound_A : IsSound A) (sound_B : IsSound B) (holds_A 
       when_none (agree A r.a.ty B r.b.ty) _ (ap (option_map rec)
       (ap (λ x. fields (sent.parcelable_fields x) (sent.parcelable_fields (form_of B r.b.ty.base))) form_a ∙ ap (λ x. fields fs (sent.parcelable_fields x)) form_b ∙ each))
 
-  pub value_differs : length (request A i m (item value none)) ≤ 1048576 → read_request A i m B (request A i m (item value none)) ≡ projected_request A i m B (item value none) → ⊥
+  pub value_differs : length (request (method_of A i m) (item value none)) ≤ 1048576 → read_request (method_of A i m) B (request (method_of A i m) (item value none)) ≡ projected_request (method_of A i m) B (item value none) → ⊥
   value_differs small =
       differs_by A B holds_B i m r.decl r.method r.here r.at r.other r.like r.id r.a r.b r.only_a r.only_b r.in_a r.in_b value small
       (λ e. clash (value_read small) (e ∙ ap seen_whole not_seen))

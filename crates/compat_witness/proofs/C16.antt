@@ -19,6 +19,7 @@ use Rattle.aidl_schema.specs.Types.{form_of, form_of_decl, form_of_kind, is_one}
 use Rattle.aidl_schema.specs.Unbroken.{Has}
 use Rattle.aidl_base.proofs.lemmas.Tests.{both}
 use Rattle.aidl_values.specs.Data.{number, none, item}
+use Rattle.wire_model.specs.MethodOf.{method_of}
 use Rattle.wire_model.specs.Outcome.{declared_as}
 use Rattle.wire_model.specs.ReadOf.{read_of}
 use Rattle.wire_model.specs.Requests.{ArgsFit, request}
@@ -56,7 +57,7 @@ module _ (A B : List Decl) (holds : AllHold B) (k i m : ℕ) (r : Reached A k B 
   pub of_base : BaseOf A k B r.a.ty r.b.ty
   of_base = base_of A k B r.a.ty r.b.ty r.number r.one r.same_type
 
-  pub number_fits : in_range (form_of A r.a.ty.base) n ≡ true → ArgsFit A i m (item (number n) none)
+  pub number_fits : in_range (form_of A r.a.ty.base) n ≡ true → ArgsFit (method_of A i m) (item (number n) none)
   number_fits range =
       let shape : is_one r.a.ty.shape ≡ true = (both (is_one r.a.ty.shape) (not r.a.ty.nullable) r.one).0 in
       args_fit A B holds i m r.decl r.method r.here r.at r.other r.like r.id r.a r.b r.only_a r.only_b r.in_a r.in_b (number n)
@@ -72,9 +73,9 @@ module _ (A B : List Decl) (holds : AllHold B) (k i m : ℕ) (r : Reached A k B 
       let agrees : agree A r.a.ty B r.b.ty ≡ true = rw (r.same_type, named, kind) refl in
       rw agrees refl
 
-  pub number_differs : (kind_code of_base.mine.kind == kind_code of_base.his.kind) ≡ true → length (request A i m (item (number n) none)) ≤ 1048576
+  pub number_differs : (kind_code of_base.mine.kind == kind_code of_base.his.kind) ≡ true → length (request (method_of A i m) (item (number n) none)) ≤ 1048576
       → (read_of Strict B 64 r.b.ty false (spell_number (form_of A r.a.ty.base) n) ≡ seen_whole (Some (number n)) → ⊥)
-      → read_request A i m B (request A i m (item (number n) none)) ≡ projected_request A i m B (item (number n) none) → ⊥
+      → read_request (method_of A i m) B (request (method_of A i m) (item (number n) none)) ≡ projected_request (method_of A i m) B (item (number n) none) → ⊥
   number_differs kinds small differs =
       differs_by A B holds i m r.decl r.method r.here r.at r.other r.like r.id r.a r.b r.only_a r.only_b r.in_a r.in_b (number n) small
       (λ e. differs (e ∙ ap seen_whole (seen kinds)))
@@ -106,12 +107,12 @@ module _ (A B : List Decl) (holds : AllHold B) (apart : AreApart name_of B) (k l
   kinds' : (kind_code b.mine.kind == kind_code b.his.kind) ≡ true
   kinds' = ap (λ (z : Decl). kind_code z.kind == kind_code b.his.kind) mine_is ∙ ap (λ (z : Decl). kind_code d.kind == kind_code z.kind) his_is ∙ kinds
 
-  fits_way : (n : ℤ) → in_range (form_of_kind d.kind) n ≡ true → ArgsFit A i m (item (number n) none)
+  fits_way : (n : ℤ) → in_range (form_of_kind d.kind) n ≡ true → ArgsFit (method_of A i m) (item (number n) none)
   fits_way n range = number_fits A B holds k i m r n (subst (λ f. in_range f n ≡ true) (sym form_a) range)
 
-  differs_way : (n : ℤ) → length (request A i m (item (number n) none)) ≤ 1048576
+  differs_way : (n : ℤ) → length (request (method_of A i m) (item (number n) none)) ≤ 1048576
       → ((u : AidlType) → is_one u.shape ≡ true → form_of B u.base ≡ form_of_kind e.kind → read_of Strict B 64 u false (spell_number (form_of_kind d.kind) n) ≡ seen_whole (Some (number n)) → ⊥)
-      → read_request A i m B (request A i m (item (number n) none)) ≡ projected_request A i m B (item (number n) none) → ⊥
+      → read_request (method_of A i m) B (request (method_of A i m) (item (number n) none)) ≡ projected_request (method_of A i m) B (item (number n) none) → ⊥
   unfolding of_base b
   differs_way n small differs = number_differs A B holds k i m r n kinds' small
       (λ q. differs r.b.ty one_b form_b (subst (λ f. read_of Strict B 64 r.b.ty false (spell_number f n) ≡ seen_whole (Some (number n))) form_a q))

@@ -21,6 +21,7 @@ use Rattle.aidl_schema.specs.Types.{Form, form_of, form_of_decl, form_of_kind, i
 use Rattle.aidl_schema.specs.Types as form
 use Rattle.aidl_schema.specs.Unbroken.{Has}
 use Rattle.aidl_values.specs.Data.{Data, number, none, item}
+use Rattle.wire_model.specs.MethodOf.{method_of}
 use Rattle.wire_model.specs.Outcome.{declared_as}
 use Rattle.wire_model.specs.ReadOf.{Read, marker_at, record_at, union_at, read_of}
 use Rattle.wire_model.specs.Requests.{ArgsFit, request}
@@ -139,11 +140,11 @@ module _ (A B : List Decl) (holds : AllHold B) (apart : AreApart name_of B) (k l
       let agrees : agree A r.a.ty B r.b.ty ≡ false = rw (r.same_type, named, kind) refl in
       no_view A r.a.ty B r.b.ty (number (pos 0)) agrees
 
-  pub zero_fits : ArgsFit A i m (item (number (pos 0)) none)
+  pub zero_fits : ArgsFit (method_of A i m) (item (number (pos 0)) none)
   zero_fits = number_fits A B holds k i m r (pos 0) (subst (λ f. in_range f (pos 0) ≡ true) (sym form_a) (zero_range is_enum.0 is_enum.1))
 
-  pub zero_differs : length (request A i m (item (number (pos 0)) none)) ≤ 1048576
-      → read_request A i m B (request A i m (item (number (pos 0)) none)) ≡ projected_request A i m B (item (number (pos 0)) none) → ⊥
+  pub zero_differs : length (request (method_of A i m) (item (number (pos 0)) none)) ≤ 1048576
+      → read_request (method_of A i m) B (request (method_of A i m) (item (number (pos 0)) none)) ≡ projected_request (method_of A i m) B (item (number (pos 0)) none) → ⊥
   zero_differs small = differs_by A B holds i m r.decl r.method r.here r.at r.other r.like r.id r.a r.b r.only_a r.only_b r.in_a r.in_b (number (pos 0)) small (λ q.
       let c = spell A r.a.ty (number (pos 0)) in
       let spelled : c ≡ spell_number (form_of_kind (Enum is_enum.0 is_enum.1)) (pos 0) = ap (λ f. spell_number f (pos 0)) form_a in

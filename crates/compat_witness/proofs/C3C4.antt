@@ -23,6 +23,7 @@ use Rattle.aidl_schema.specs.Unbroken.{Has}
 use Rattle.aidl_values.specs.Data.{Data, Items, none, item}
 use Rattle.aidl_values.specs.Sound.{initial_in}
 use Rattle.wire_model.specs.Calls.{descriptor, arguments_of, arguments, code_at, code_of, is_out}
+use Rattle.wire_model.specs.MethodOf.{method_of}
 use Rattle.wire_model.specs.Outcome.{declared_as, method_like}
 use Rattle.wire_model.specs.ReadOf.{Read, ◌>>=◌, one_at, array_at, marker_at, record_at, union_at, read_of}
 use Rattle.wire_model.specs.Receiver.{Received, received, or_status, zero_in, length_at, array_opening_at, argument_at, arguments_at, opened_length}
@@ -122,7 +123,7 @@ module _ (S : List Decl) where
 
   -- A method whose code is known is called or refused, but not for its code.
   pub parts_known : (j n : ℕ) → side_of (of_parts S j n []) ≡ transport unknown_transaction → ⊥
-  parts_known j n = by (arguments_at Strict S 0 (arguments S j n) []) (arguments_short (arguments S j n) 0)
+  parts_known j n = by (arguments_at Strict S 0 (arguments (method_of S j n)) []) (arguments_short (arguments (method_of S j n)) 0)
     where
       by : (x : Read Items) → (x ≡ Err unknown_transaction → ⊥) → side_of (x >>= λ saw. Ok (received n saw.0 saw.1)) ≡ transport unknown_transaction → ⊥
       by (Err s) never e = let is : s ≡ unknown_transaction = cc in never (ap (λ z. let x : Read Items = Err z in x) is)
@@ -131,7 +132,7 @@ module _ (S : List Decl) where
 
   -- It is that method, and no other, that is called.
   pub parts_called : (j n k : ℕ) (parts : List ℕ) (saw : Items) → side_of (of_parts S j n parts) ≡ called k saw → n ≡ k
-  parts_called j n k parts saw = by (arguments_at Strict S 0 (arguments S j n) parts)
+  parts_called j n k parts saw = by (arguments_at Strict S 0 (arguments (method_of S j n)) parts)
     where
       by : (x : Read Items) → side_of (x >>= λ saw. Ok (received n saw.0 saw.1)) ≡ called k saw → n ≡ k
       by (Err s) e = cc
@@ -141,19 +142,19 @@ module _ (S : List Decl) where
 -- a request without arguments
 module _ (A B : List Decl) (holds : AllHold B) (i m : ℕ) (d : Decl) (v : Method) (here : slice_get A i ≡ Some d) (at : slice_get (methods_of d.kind) m ≡ Some v) (bare : v.args ≡ [])
     (j : ℕ) (interface : declared_as B (descriptor A i) ≡ Some j) where
-  no_arguments : arguments A i m ≡ []
+  no_arguments : arguments (method_of A i m) ≡ []
   no_arguments = ap arguments_of (mine A B holds i m d v here at j interface) ∙ bare
 
-  pub bare_fits : ArgsFit A i m none
+  pub bare_fits : ArgsFit (method_of A i m) none
   bare_fits = record { each = subst (λ xs. ArgumentsFit A xs none) (sym no_arguments) tt; few = subst (λ xs. sum_of_lengths xs none ≤ 65536) (sym no_arguments) (omega arith) }
 
-  no_parts : argument_parts A (arguments A i m) none ≡ []
+  no_parts : argument_parts A (arguments (method_of A i m)) none ≡ []
   no_parts = ap (λ xs. argument_parts A xs none) no_arguments
 
-  pub bare_found : (n : ℕ) → length (request A i m none) ≤ 1048576 → position_of_code (methods_at B j) (code_at A i m) ≡ Some n → read_request A i m B (request A i m none) ≡ side_of (of_parts B j n [])
+  pub bare_found : (n : ℕ) → length (request (method_of A i m) none) ≤ 1048576 → position_of_code (methods_at B j) (code_at (method_of A i m)) ≡ Some n → read_request (method_of A i m) B (request (method_of A i m) none) ≡ side_of (of_parts B j n [])
   bare_found n small code = read_found A B holds i m d v here at j interface none small n code ∙ ap (λ b. side_of (of_parts B j n b)) no_parts
 
-  pub code_is : code_at A i m ≡ v.id + 1
+  pub code_is : code_at (method_of A i m) ≡ v.id + 1
   code_is = ap code_of (mine A B holds i m d v here at j interface)
 
 module _ (old new : List Decl) (holds_old : AllHold old) (holds_new : AllHold new) (apart_old : AreApart name_of old) (apart_new : AreApart name_of new) (p : Place) (cs : List Candidate)
@@ -193,7 +194,7 @@ module _ (old new : List Decl) (holds_old : AllHold old) (holds_new : AllHold ne
           let there : Has cs c = subst (λ ds. Has ds c) is (0, refl) in
           let fits = bare_fits old new holds_new i m d v here at bare j interface in
           let few = small c there fits in
-          let found : position_of_code (methods_at new j) (code_at old i m) ≡ Some n = ap (position_of_code (methods_at new j)) (code_is old new holds_new i m d v here at bare j interface) ∙ code in
+          let found : position_of_code (methods_at new j) (code_at (method_of old i m)) ≡ Some n = ap (position_of_code (methods_at new j)) (code_is old new holds_new i m d v here at bare j interface) ∙ code in
           let read = bare_found old new holds_new i m d v here at bare j interface n few found in
           let projected = projected_by old new holds_new i m d v here at j interface none None like in
           (c, there, record { fits = fits; small = few }, λ e. parts_known new j n (sym read ∙ e ∙ projected))
@@ -227,23 +228,23 @@ module _ (old new : List Decl) (holds_old : AllHold old) (holds_new : AllHold ne
           let there : Has cs c = subst (λ ds. Has ds c) is (0, refl) in
           let fits = bare_fits old new holds_new i m d v here at bare t.interface like.interface in
           let few = small c there fits in
-          let arguments_t : arguments new t.interface t.position ≡ [] = ap arguments_of (ap (λ o. slice_get (methods_of_decl o) t.position) like.spot.here ∙ like.spot.at) ∙ bare_t in
-          let projected : projected_request old i m new none ≡ called t.position none =
+          let arguments_t : arguments (method_of new t.interface t.position) ≡ [] = ap arguments_of (ap (λ o. slice_get (methods_of_decl o) t.position) like.spot.here ∙ like.spot.at) ∙ bare_t in
+          let projected : projected_request (method_of old i m) new none ≡ called t.position none =
           projected_by old new holds_new i m d v here at t.interface like.interface none (Some t.position) like.like
-          ∙ ap (λ ys. side_of (or_status bad_value (projected_arguments old (arguments old i m) new ys none) >>= λ saw. Ok (receiver.called t.position saw))) arguments_t in
-          (c, there, record { fits = fits; small = few }, λ e. by_code (position_of_code (methods_at new t.interface) (code_at old i m)) refl few (e ∙ projected))
+          ∙ ap (λ ys. side_of (or_status bad_value (projected_arguments old (arguments (method_of old i m)) new ys none) >>= λ saw. Ok (receiver.called t.position saw))) arguments_t in
+          (c, there, record { fits = fits; small = few }, λ e. by_code (position_of_code (methods_at new t.interface) (code_at (method_of old i m))) refl few (e ∙ projected))
         where
-          by_code : (o : Option ℕ) → position_of_code (methods_at new t.interface) (code_at old i m) ≡ o → length (request old i m none) ≤ 1048576
-              → read_request old i m new (request old i m none) ≡ called t.position none → ⊥
+          by_code : (o : Option ℕ) → position_of_code (methods_at new t.interface) (code_at (method_of old i m)) ≡ o → length (request (method_of old i m) none) ≤ 1048576
+              → read_request (method_of old i m) new (request (method_of old i m) none) ≡ called t.position none → ⊥
           by_code None code few e =
               let wrong : transport unknown_transaction ≡ called t.position none = sym (read_nobody old new holds_new i m d v here at t.interface like.interface none few code) ∙ e in cc
           by_code (Some n) code few e =
               let at_n : n ≡ t.position = parts_called new t.interface n t.position [] none (sym (bare_found old new holds_new i m d v here at bare t.interface like.interface n few code) ∙ e) in
-              let x = position_passes (λ (u : Method). u.id + 1 == code_at old i m) (methods_at new t.interface) n code in
+              let x = position_passes (λ (u : Method). u.id + 1 == code_at (method_of old i m)) (methods_at new t.interface) n code in
               let at_t : slice_get (methods_at new t.interface) n ≡ Some t.method = ap (λ k. slice_get (methods_at new t.interface) k) at_n ∙ ap (λ o. slice_get (methods_of_decl o) t.position) like.spot.here ∙ like.spot.at in
               let same : ◌≡◌ {A = Option Method} (Some x.0) (Some t.method) = sym x.1 ∙ at_t in
               let is_t : x.0 ≡ t.method = cc in
-              let id : (t.method.id + 1 == code_at old i m) ≡ true = subst (λ (u : Method). (u.id + 1 == code_at old i m) ≡ true) is_t x.2 in
+              let id : (t.method.id + 1 == code_at (method_of old i m)) ≡ true = subst (λ (u : Method). (u.id + 1 == code_at (method_of old i m)) ≡ true) is_t x.2 in
               differ (ids t.method.id v.id (subst (λ k. (t.method.id + 1 == k) ≡ true) (code_is old new holds_new i m d v here at bare t.interface like.interface) id))
             where
               ids : (a b : ℕ) → (a + 1 == b + 1) ≡ true → b ≡ a

@@ -19,6 +19,7 @@ use Rattle.aidl_schema.specs.Same.{same}
 use Rattle.aidl_schema.specs.Unbroken.{Has}
 use Rattle.aidl_values.specs.Data.{Data, Items, none}
 use Rattle.wire_model.specs.Calls.{AnswerData, returned, method_at, arguments_of, arguments, result_of, result_type, outs_of, out_types, is_oneway, is_oneway_of}
+use Rattle.wire_model.specs.MethodOf.{method_of}
 use Rattle.wire_model.specs.ReadOf.{Read, ◌>>=◌, read_of}
 use Rattle.wire_model.specs.Receiver.{or_status, zero_in, result_at, values_at, returned_at, status_at, whole}
 use Rattle.wire_model.specs.Receiver as receiver
@@ -51,30 +52,30 @@ abbrev of_view : Option (Option Data) → Result AnswerData ℤ
 of_view o = or_status bad_value o >>= λ r. Ok (returned r none)
 
 -- A reply of B's method w to A's client of v; neither has an argument.
-module _ (A : List Decl) (i m : ℕ) (v : Method) (B : List Decl) (j n : ℕ) (w : Method) (at_v : method_at A i m ≡ Some v) (at_w : method_at B j n ≡ Some w) (bare_v : v.args ≡ []) (bare_w : w.args ≡ [])
-    (two_way : w.oneway ≡ false) (found : counterpart A i m B ≡ Some (j, n)) (r : Option Data) where
-  outs_a : out_types A i m ≡ []
+module _ (A : List Decl) (i m : ℕ) (v : Method) (B : List Decl) (j n : ℕ) (w : Method) (at_v : method_at (method_of A i m) ≡ Some v) (at_w : method_at (method_of B j n) ≡ Some w) (bare_v : v.args ≡ []) (bare_w : w.args ≡ [])
+    (two_way : w.oneway ≡ false) (found : counterpart (method_of A i m) B ≡ Some (method_of B j n)) (r : Option Data) where
+  outs_a : out_types (method_of A i m) ≡ []
   outs_a = ap (λ o. outs_of (arguments_of o)) at_v ∙ ap outs_of bare_v
 
-  outs_b : out_types B j n ≡ []
+  outs_b : out_types (method_of B j n) ≡ []
   outs_b = ap (λ o. outs_of (arguments_of o)) at_w ∙ ap outs_of bare_w
 
-  result_a : result_type A i m ≡ v.result
+  result_a : result_type (method_of A i m) ≡ v.result
   result_a = ap result_of at_v
 
-  result_b : result_type B j n ≡ w.result
+  result_b : result_type (method_of B j n) ≡ w.result
   result_b = ap result_of at_w
 
   abbrev sent : List ℕ
   sent = spell_result B w.result r
 
-  reply_is : wire.reply B j n (returned r none) ≡ word (pos 0) ++ sent
+  reply_is : wire.reply (method_of B j n) (returned r none) ≡ word (pos 0) ++ sent
   reply_is =
-      ap (λ t. word (pos 0) ++ (spell_result B t r ++ spell_each B (out_types B j n) none)) result_b
+      ap (λ t. word (pos 0) ++ (spell_result B t r ++ spell_each B (out_types (method_of B j n)) none)) result_b
       ∙ ap (λ ts. word (pos 0) ++ (sent ++ spell_each B ts none)) outs_b ∙ ap (λ b. word (pos 0) ++ b) (append-nil sent)
 
   abbrev then_status : Read ℤ → Result AnswerData ℤ
-  then_status x = x >>= λ status. status_at Strict A (result_type A i m) (out_types A i m) status.0 status.1 >>= λ a. whole a.0 a.1
+  then_status x = x >>= λ status. status_at Strict A (result_type (method_of A i m)) (out_types (method_of A i m)) status.0 status.1 >>= λ a. whole a.0 a.1
 
   abbrev then_result : List AidlType → Read (Option Data) → Result AnswerData ℤ
   then_result ts x = (x >>= λ r. values_at Strict A ts r.1 >>= λ vs. let y : Read AnswerData = Ok (returned r.0 vs.0, vs.1) in y) >>= λ a. whole a.0 a.1
@@ -84,48 +85,48 @@ module _ (A : List Decl) (i m : ℕ) (v : Method) (B : List Decl) (j n : ℕ) (w
   by_result (Ok (y, [])) = refl
   by_result (Ok (y, c ∷ rest)) = refl
 
-  client_is : receiver.client Strict A i m (wire.reply B j n (returned r none)) ≡ of_result (result_at Strict A v.result sent)
+  client_is : receiver.client Strict (method_of A i m) (wire.reply (method_of B j n) (returned r none)) ≡ of_result (result_at Strict A v.result sent)
   unfolding receiver.client returned_at
   client_is =
-      ap (λ b. receiver.client Strict A i m b) reply_is
+      ap (λ b. receiver.client Strict (method_of A i m) b) reply_is
       ∙ ap then_status (word_again (pos 0) false sent (fits_pos 0 (omega arith)))
-      ∙ ap (λ t. then_result (out_types A i m) (result_at Strict A t sent)) result_a
+      ∙ ap (λ t. then_result (out_types (method_of A i m)) (result_at Strict A t sent)) result_a
       ∙ ap (λ ts. then_result ts (result_at Strict A v.result sent)) outs_a
       ∙ by_result (result_at Strict A v.result sent)
 
   abbrev answer : Option AnswerData
   answer = Some (returned r none)
 
-  two_way_there : is_oneway B j n ≡ false
+  two_way_there : is_oneway (method_of B j n) ≡ false
   two_way_there = ap is_oneway_of at_w ∙ two_way
 
-  read_is : at_method no_reply (λ j n. read_reply A i m B j n (answer_bytes B j n answer)) (counterpart A i m B) ≡ client (of_result (result_at Strict A v.result sent))
+  read_is : at_method no_reply (λ b. read_reply (method_of A i m) b (answer_bytes b answer)) (counterpart (method_of A i m) B) ≡ client (of_result (result_at Strict A v.result sent))
   read_is =
-      ap (at_method no_reply (λ j n. read_reply A i m B j n (answer_bytes B j n answer))) found
-      ∙ ap (λ b. cond b no_reply (client (receiver.client Strict A i m (wire.reply B j n (returned r none))))) two_way_there ∙ ap client client_is
+      ap (at_method no_reply (λ b. read_reply (method_of A i m) b (answer_bytes b answer))) found
+      ∙ ap (λ b. cond b no_reply (client (receiver.client Strict (method_of A i m) (wire.reply (method_of B j n) (returned r none))))) two_way_there ∙ ap client client_is
 
   abbrev then_outs : Option (Option Data) → Option Items → Side
   then_outs o os = client (or_status bad_value o >>= λ r. or_status bad_value os >>= λ vs. Ok (returned r vs))
 
-  projected_is : at_method no_reply (λ j n. projected_reply B j n A i m answer) (counterpart A i m B) ≡ client (of_view (projected_result B w.result A v.result r))
+  projected_is : at_method no_reply (λ b. projected_reply b (method_of A i m) answer) (counterpart (method_of A i m) B) ≡ client (of_view (projected_result B w.result A v.result r))
   unfolding projected_answer
   projected_is =
-      ap (at_method no_reply (λ j n. projected_reply B j n A i m answer)) found
-      ∙ ap (λ t. then_outs (projected_result B t A (result_type A i m) r) (projected_outs B (arguments B j n) A (arguments A i m) none)) result_b
-      ∙ ap (λ t. then_outs (projected_result B w.result A t r) (projected_outs B (arguments B j n) A (arguments A i m) none)) result_a
-      ∙ ap (λ xs. then_outs (projected_result B w.result A v.result r) (projected_outs B (arguments B j n) A xs none)) (ap arguments_of at_v ∙ bare_v)
+      ap (at_method no_reply (λ b. projected_reply b (method_of A i m) answer)) found
+      ∙ ap (λ t. then_outs (projected_result B t A (result_type (method_of A i m)) r) (projected_outs B (arguments (method_of B j n)) A (arguments (method_of A i m)) none)) result_b
+      ∙ ap (λ t. then_outs (projected_result B w.result A t r) (projected_outs B (arguments (method_of B j n)) A (arguments (method_of A i m)) none)) result_a
+      ∙ ap (λ xs. then_outs (projected_result B w.result A v.result r) (projected_outs B (arguments (method_of B j n)) A xs none)) (ap arguments_of at_v ∙ bare_v)
 
   pub result_differs : (of_result (result_at Strict A v.result sent) ≡ of_view (projected_result B w.result A v.result r) → ⊥)
-      → at_method no_reply (λ j n. read_reply A i m B j n (answer_bytes B j n answer)) (counterpart A i m B) ≡ at_method no_reply (λ j n. projected_reply B j n A i m answer) (counterpart A i m B) → ⊥
+      → at_method no_reply (λ b. read_reply (method_of A i m) b (answer_bytes b answer)) (counterpart (method_of A i m) B) ≡ at_method no_reply (λ b. projected_reply b (method_of A i m) answer) (counterpart (method_of A i m) B) → ⊥
   result_differs differs e = differs (same (of_result (result_at Strict A v.result sent)) (of_view (projected_result B w.result A v.result r)) (sym read_is ∙ e ∙ projected_is))
     where
       same : (x y : Result AnswerData ℤ) → client x ≡ client y → x ≡ y
       same x y e = cc
 
-  pub result_fits : ResultFits B w.result r → IsAnswerAt B (counterpart A i m B) answer
+  pub result_fits : ResultFits B w.result r → IsAnswerAt (counterpart (method_of A i m) B) answer
   result_fits fits =
-      let each : EachFits B (out_types B j n) none = subst (λ ts. EachFits B ts none) (sym outs_b) tt in
-      subst (λ q. IsAnswerAt B q answer) (sym found) (two_way_there, (subst (λ t. ResultFits B t r) (sym result_b) fits, each))
+      let each : EachFits B (out_types (method_of B j n)) none = subst (λ ts. EachFits B ts none) (sym outs_b) tt in
+      subst (λ q. IsAnswerAt q answer) (sym found) (two_way_there, (subst (λ t. ResultFits B t r) (sym result_b) fits, each))
 
 low_fits : (B : List Decl) (t : Option AidlType) → is_plain_result t ≡ true → ResultFits B t (low_result t)
 low_fits B None h = tt
@@ -227,7 +228,7 @@ module _ (old new : List Decl) (holds_old : AllHold old) (holds_new : AllHold ne
       let two = both (not (s.method.oneway || t.method.oneway)) (is_plain_result s.method.result && is_plain_result t.method.result) one.1 in
       let ways = neither s.method.oneway t.method.oneway (flipped (s.method.oneway || t.method.oneway) two.0) in
       let plain = both (is_plain_result s.method.result) (is_plain_result t.method.result) two.1 in
-      let at_s = subst (λ (u : Method). method_at old s.interface s.position ≡ Some u) (sym q.spot.method) (mine old new holds_old apart_old s.interface s.position e.before x.0.0 q.spot.here q.spot.at t q.like) in
+      let at_s = subst (λ (u : Method). method_at (method_of old s.interface s.position) ≡ Some u) (sym q.spot.method) (mine old new holds_old apart_old s.interface s.position e.before x.0.0 q.spot.here q.spot.at t q.like) in
       let at_t = his old new holds_old apart_old s.interface s.position e.before x.0.0 q.spot.here q.spot.at t q.like in
       let forth = named old new holds_old apart_old s.interface s.position e.before x.0.0 q.spot.here q.spot.at t q.like in
       let back = named new old holds_new apart_new t.interface t.position q.like.spot.decl t.method q.like.spot.here q.like.spot.at (record { interface = s.interface; position = s.position; method = x.0.0 })
@@ -235,9 +236,9 @@ module _ (old new : List Decl) (holds_old : AllHold old) (holds_new : AllHold ne
       by s t at_s at_t (empty_is s.method.args bare.0) (empty_is t.method.args bare.1) ways.0 ways.1 plain.0 plain.1 forth back
       (either_way old new s.method.result t.method.result plain.0 plain.1 differ) met.1
     where
-      by : (s t : Spot) → method_at old s.interface s.position ≡ Some s.method → method_at new t.interface t.position ≡ Some t.method → s.method.args ≡ [] → t.method.args ≡ [] → s.method.oneway ≡ false → t.method.oneway ≡ false
+      by : (s t : Spot) → method_at (method_of old s.interface s.position) ≡ Some s.method → method_at (method_of new t.interface t.position) ≡ Some t.method → s.method.args ≡ [] → t.method.args ≡ [] → s.method.oneway ≡ false → t.method.oneway ≡ false
           → is_plain_result s.method.result ≡ true → is_plain_result t.method.result ≡ true
-          → counterpart old s.interface s.position new ≡ Some (t.interface, t.position) → counterpart new t.interface t.position old ≡ Some (s.interface, s.position)
+          → counterpart (method_of old s.interface s.position) new ≡ Some (method_of new t.interface t.position) → counterpart (method_of new t.interface t.position) old ≡ Some (method_of old s.interface s.position)
           → ShowsIn old s.method.result new t.method.result ⊎ ShowsIn new t.method.result old s.method.result
           → table.low_replies s t ≡ cs → Shows old new cs
       by s t at_s at_t bare_s bare_t two_s two_t plain_s plain_t forth back (inl shows) is =

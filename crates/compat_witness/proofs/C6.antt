@@ -19,6 +19,7 @@ use Rattle.aidl_schema.specs.Types.{is_one}
 use Rattle.aidl_schema.specs.Unbroken.{Has}
 use Rattle.aidl_values.specs.Data.{Data, Items, none, item}
 use Rattle.wire_model.specs.Calls.{arguments_of, arguments, code_at}
+use Rattle.wire_model.specs.MethodOf.{method_of}
 use Rattle.wire_model.specs.ReadOf.{Read, ◌>>=◌, read_of}
 use Rattle.wire_model.specs.Receiver.{Received, received, or_status, zero_in, argument_at, arguments_at, opened_length}
 use Rattle.wire_model.specs.Receiver as receiver
@@ -110,14 +111,14 @@ left_over n k [] saw some e = absurd (some refl)
 left_over n k (c ∷ parts) saw some e = absurd cc
 
 module _ (A B : List Decl) (holdsA : AllHold A) (holds : AllHold B) (apartA : AreApart name_of A) (i m : ℕ) (d : Decl) (v : Method) (here : slice_get A i ≡ Some d) (at : slice_get (methods_of d.kind) m ≡ Some v) (t : Spot) (like : IsLike A i v B t) (args : Items)
-    (few : length (request A i m args) ≤ 1048576) where
+    (few : length (request (method_of A i m) args) ≤ 1048576) where
   -- The method of the name isn't called with the projected arguments.
-  by_code : (saw : Items) → (side_of (of_parts B t.interface t.position (argument_parts A (arguments A i m) args)) ≡ called t.position saw → ⊥)
-      → (o : Option ℕ) → position_of_code (methods_at B t.interface) (code_at A i m) ≡ o → read_request A i m B (request A i m args) ≡ called t.position saw → ⊥
+  by_code : (saw : Items) → (side_of (of_parts B t.interface t.position (argument_parts A (arguments (method_of A i m)) args)) ≡ called t.position saw → ⊥)
+      → (o : Option ℕ) → position_of_code (methods_at B t.interface) (code_at (method_of A i m)) ≡ o → read_request (method_of A i m) B (request (method_of A i m) args) ≡ called t.position saw → ⊥
   by_code saw never None code e =
       let wrong : transport unknown_transaction ≡ called t.position saw = sym (read_nobody A B holds i m d v here at t.interface like.interface args few code) ∙ e in absurd cc
   by_code saw never (Some n) code e =
-      let parts = argument_parts A (arguments A i m) args in
+      let parts = argument_parts A (arguments (method_of A i m)) args in
       let read : side_of (of_parts B t.interface n parts) ≡ called t.position saw = sym (read_found A B holds i m d v here at t.interface like.interface args few n code) ∙ e in
       let one : n ≡ t.position = parts_called B t.interface n t.position parts saw read in
       never (subst (λ k. side_of (of_parts B t.interface k parts) ≡ called t.position saw) one read)
@@ -125,15 +126,15 @@ module _ (A B : List Decl) (holdsA : AllHold A) (holds : AllHold B) (apartA : Ar
   abbrev after : Option Items → Side
   after o = side_of (or_status bad_value o >>= λ saw. Ok (receiver.called t.position saw))
 
-  pub count_differs : (xs ys : List Arg) → arguments A i m ≡ xs → arguments B t.interface t.position ≡ ys → (saw : Items) → projected_arguments A xs B ys args ≡ Some saw
+  pub count_differs : (xs ys : List Arg) → arguments (method_of A i m) ≡ xs → arguments (method_of B t.interface t.position) ≡ ys → (saw : Items) → projected_arguments A xs B ys args ≡ Some saw
       → (side_of (of_parts B t.interface t.position (argument_parts A xs args)) ≡ called t.position saw → ⊥)
-      → read_request A i m B (request A i m args) ≡ projected_request A i m B args → ⊥
+      → read_request (method_of A i m) B (request (method_of A i m) args) ≡ projected_request (method_of A i m) B args → ⊥
   count_differs xs ys is_xs is_ys saw seen never e =
-      let projected : projected_request A i m B args ≡ called t.position saw =
+      let projected : projected_request (method_of A i m) B args ≡ called t.position saw =
       projected_by A B holds i m d v here at t.interface like.interface args (Some t.position) like.like
-      ∙ ap (λ zs. after (projected_arguments A zs B (arguments B t.interface t.position) args)) is_xs ∙ ap (λ zs. after (projected_arguments A xs B zs args)) is_ys ∙ ap after seen in
+      ∙ ap (λ zs. after (projected_arguments A zs B (arguments (method_of B t.interface t.position)) args)) is_xs ∙ ap (λ zs. after (projected_arguments A xs B zs args)) is_ys ∙ ap after seen in
       by_code saw (λ q. never (ap (λ zs. side_of (of_parts B t.interface t.position (argument_parts A zs args))) (sym is_xs) ∙ q))
-      (position_of_code (methods_at B t.interface) (code_at A i m)) refl (e ∙ projected)
+      (position_of_code (methods_at B t.interface) (code_at (method_of A i m))) refl (e ∙ projected)
 
 counts_differ : (m n : ℕ) → not (m == n) ≡ true → m ≡ n → ⊥
 counts_differ m n h e = let wrong : not (n == n) ≡ true = subst (λ k. not (k == n) ≡ true) e h in let clash : not true ≡ true = subst (λ b. not b ≡ true) (eq_refl n) wrong in absurd cc
@@ -180,17 +181,17 @@ module _ (old new : List Decl) (holds_old : AllHold old) (holds_new : AllHold ne
           → candidate.request false i m (low_arguments v.args) ∷ [] ≡ cs → Shows old new cs
       by i m d v here at t like test differ is = from test (fits test)
         where
-          mine_is : arguments old i m ≡ v.args
+          mine_is : arguments (method_of old i m) ≡ v.args
           mine_is = ap arguments_of (mine old new holds_old apart_old i m d v here at t like)
 
-          his_is : arguments new t.interface t.position ≡ t.method.args
+          his_is : arguments (method_of new t.interface t.position) ≡ t.method.args
           his_is = ap arguments_of (his old new holds_old apart_old i m d v here at t like)
 
           all_plain : ((is_empty v.args && list_all is_plain_in t.method.args) ≡ true) ⊎ ((is_empty t.method.args && list_all is_plain_in v.args) ≡ true) → list_all is_plain_in v.args ≡ true
           all_plain (inl h) = ap (list_all is_plain_in) (empty_is v.args (both (is_empty v.args) (list_all is_plain_in t.method.args) h).0)
           all_plain (inr h) = (both (is_empty t.method.args) (list_all is_plain_in v.args) h).1
 
-          fits : ((is_empty v.args && list_all is_plain_in t.method.args) ≡ true) ⊎ ((is_empty t.method.args && list_all is_plain_in v.args) ≡ true) → ArgsFit old i m (low_arguments v.args)
+          fits : ((is_empty v.args && list_all is_plain_in t.method.args) ≡ true) ⊎ ((is_empty t.method.args && list_all is_plain_in v.args) ≡ true) → ArgsFit (method_of old i m) (low_arguments v.args)
           fits h = record {
             each = subst (λ xs. ArgumentsFit old xs (low_arguments v.args)) (sym mine_is) (low_fit old v.args (all_plain h));
             few = subst (λ xs. sum_of_lengths xs (low_arguments v.args) ≤ 65536) (sym mine_is) (omega (arith, low_sum v.args (all_plain h)));
@@ -202,10 +203,10 @@ module _ (old new : List Decl) (holds_old : AllHold old) (holds_new : AllHold ne
           there : Has cs c
           there = subst (λ ds. Has ds (candidate.request false i m (low_arguments v.args))) is (0, refl)
 
-          shows : (f : ArgsFit old i m (low_arguments v.args)) → (read_request old i m new (request old i m (low_arguments v.args)) ≡ projected_request old i m new (low_arguments v.args) → ⊥) → Shows old new cs
+          shows : (f : ArgsFit (method_of old i m) (low_arguments v.args)) → (read_request (method_of old i m) new (request (method_of old i m) (low_arguments v.args)) ≡ projected_request (method_of old i m) new (low_arguments v.args) → ⊥) → Shows old new cs
           shows f differs = (candidate.request false i m (low_arguments v.args), there, record { fits = f; small = small (candidate.request false i m (low_arguments v.args)) there f }, differs)
 
-          from : ((is_empty v.args && list_all is_plain_in t.method.args) ≡ true) ⊎ ((is_empty t.method.args && list_all is_plain_in v.args) ≡ true) → ArgsFit old i m (low_arguments v.args) → Shows old new cs
+          from : ((is_empty v.args && list_all is_plain_in t.method.args) ≡ true) ⊎ ((is_empty t.method.args && list_all is_plain_in v.args) ≡ true) → ArgsFit (method_of old i m) (low_arguments v.args) → Shows old new cs
           from (inl h) f =
               let two = both (is_empty v.args) (list_all is_plain_in t.method.args) h in
               let bare = empty_is v.args two.0 in

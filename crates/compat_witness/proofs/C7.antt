@@ -29,6 +29,7 @@ use Rattle.aidl_values.specs.HasType.{HasType}
 use Rattle.aidl_values.specs.Fits.{Fits}
 use Rattle.aidl_values.proofs.lemmas.Sounds.{default_fits}
 use Rattle.wire_model.specs.Calls.{AnswerData, returned, method_at, arguments_of, arguments, result_of, result_type, outs_of, out_types, is_oneway, is_oneway_of, is_out}
+use Rattle.wire_model.specs.MethodOf.{method_of}
 use Rattle.wire_model.specs.ReadOf.{Read, ◌>>=◌}
 use Rattle.wire_model.specs.Receiver.{Received, received, or_status, zero_in, array_opening, within_sum, length_at, array_opening_at, opening_at, argument_at, arguments_at, opened_length, result_at, values_at, returned_at, status_at, whole}
 use Rattle.wire_model.specs.Receiver as receiver
@@ -65,51 +66,51 @@ whole_left a [] some = absurd (some refl)
 whole_left a (c ∷ b) some = refl
 
 -- A reply with an out that the client doesn't ask for. Both methods are void.
-module _ (A : List Decl) (i m : ℕ) (v : Method) (B : List Decl) (j n : ℕ) (w : Method) (at_v : method_at A i m ≡ Some v) (at_w : method_at B j n ≡ Some w) (a b : Arg) (only_a : v.args ≡ a ∷ []) (only_b : w.args ≡ b ∷ [])
-    (in_a : is_in_way a.way ≡ true) (out_b : is_in_way b.way ≡ false) (void_v : v.result ≡ None) (void_w : w.result ≡ None) (two_way : w.oneway ≡ false) (found : counterpart A i m B ≡ Some (j, n)) (z : Data) where
+module _ (A : List Decl) (i m : ℕ) (v : Method) (B : List Decl) (j n : ℕ) (w : Method) (at_v : method_at (method_of A i m) ≡ Some v) (at_w : method_at (method_of B j n) ≡ Some w) (a b : Arg) (only_a : v.args ≡ a ∷ []) (only_b : w.args ≡ b ∷ [])
+    (in_a : is_in_way a.way ≡ true) (out_b : is_in_way b.way ≡ false) (void_v : v.result ≡ None) (void_w : w.result ≡ None) (two_way : w.oneway ≡ false) (found : counterpart (method_of A i m) B ≡ Some (method_of B j n)) (z : Data) where
   abbrev answer : Option AnswerData
   answer = Some (returned None (item z none))
 
-  outs_a : out_types A i m ≡ []
+  outs_a : out_types (method_of A i m) ≡ []
   outs_a = ap (λ o. outs_of (arguments_of o)) at_v ∙ ap outs_of only_a ∙ rw in_a refl
 
-  outs_b : out_types B j n ≡ b.ty ∷ []
+  outs_b : out_types (method_of B j n) ≡ b.ty ∷ []
   outs_b = ap (λ o. outs_of (arguments_of o)) at_w ∙ ap outs_of only_b ∙ rw out_b refl
 
-  result_a : result_type A i m ≡ None
+  result_a : result_type (method_of A i m) ≡ None
   result_a = ap result_of at_v ∙ void_v
 
-  result_b : result_type B j n ≡ None
+  result_b : result_type (method_of B j n) ≡ None
   result_b = ap result_of at_w ∙ void_w
 
   abbrev sent : List ℕ
   sent = spell B b.ty z
 
-  reply_is : wire.reply B j n (returned None (item z none)) ≡ word (pos 0) ++ sent
+  reply_is : wire.reply (method_of B j n) (returned None (item z none)) ≡ word (pos 0) ++ sent
   reply_is =
-      ap (λ t. word (pos 0) ++ (spell_result B t None ++ spell_each B (out_types B j n) (item z none))) result_b
+      ap (λ t. word (pos 0) ++ (spell_result B t None ++ spell_each B (out_types (method_of B j n)) (item z none))) result_b
       ∙ ap (λ ts. word (pos 0) ++ spell_each B ts (item z none)) outs_b ∙ ap (λ c. word (pos 0) ++ c) (append-nil sent)
 
   abbrev then_status : Read ℤ → Result AnswerData ℤ
-  then_status x = x >>= λ status. status_at Strict A (result_type A i m) (out_types A i m) status.0 status.1 >>= λ a. whole a.0 a.1
+  then_status x = x >>= λ status. status_at Strict A (result_type (method_of A i m)) (out_types (method_of A i m)) status.0 status.1 >>= λ a. whole a.0 a.1
 
   abbrev then_result : Option AidlType → List AidlType → Result AnswerData ℤ
   then_result t ts = (result_at Strict A t sent >>= λ r. values_at Strict A ts r.1 >>= λ vs. let y : Read AnswerData = Ok (returned r.0 vs.0, vs.1) in y) >>= λ a. whole a.0 a.1
 
-  client_is : receiver.client Strict A i m (wire.reply B j n (returned None (item z none))) ≡ Err bad_value
+  client_is : receiver.client Strict (method_of A i m) (wire.reply (method_of B j n) (returned None (item z none))) ≡ Err bad_value
   unfolding receiver.client returned_at
   client_is =
-      ap (λ c. receiver.client Strict A i m c) reply_is ∙ ap then_status (word_again (pos 0) false sent (fits_pos 0 (omega arith)))
-      ∙ ap (λ t. then_result t (out_types A i m)) result_a ∙ ap (λ ts. then_result None ts) outs_a
+      ap (λ c. receiver.client Strict (method_of A i m) c) reply_is ∙ ap then_status (word_again (pos 0) false sent (fits_pos 0 (omega arith)))
+      ∙ ap (λ t. then_result t (out_types (method_of A i m))) result_a ∙ ap (λ ts. then_result None ts) outs_a
       ∙ whole_left (returned None none) sent (not_empty sent (spell_whole B b.ty z))
 
-  two_way_there : is_oneway B j n ≡ false
+  two_way_there : is_oneway (method_of B j n) ≡ false
   two_way_there = ap is_oneway_of at_w ∙ two_way
 
-  read_is : at_method no_reply (λ j n. read_reply A i m B j n (answer_bytes B j n answer)) (counterpart A i m B) ≡ client (Err bad_value)
+  read_is : at_method no_reply (λ b. read_reply (method_of A i m) b (answer_bytes b answer)) (counterpart (method_of A i m) B) ≡ client (Err bad_value)
   read_is =
-      ap (at_method no_reply (λ j n. read_reply A i m B j n (answer_bytes B j n answer))) found
-      ∙ ap (λ b. cond b no_reply (client (receiver.client Strict A i m (wire.reply B j n (returned None (item z none)))))) two_way_there ∙ ap client client_is
+      ap (at_method no_reply (λ b. read_reply (method_of A i m) b (answer_bytes b answer))) found
+      ∙ ap (λ b. cond b no_reply (client (receiver.client Strict (method_of A i m) (wire.reply (method_of B j n) (returned None (item z none)))))) two_way_there ∙ ap client client_is
 
   abbrev then_outs : Option (Option Data) → Option Items → Side
   then_outs o os = client (or_status bad_value o >>= λ r. or_status bad_value os >>= λ vs. Ok (returned r vs))
@@ -117,20 +118,20 @@ module _ (A : List Decl) (i m : ℕ) (v : Method) (B : List Decl) (j n : ℕ) (w
   outs_seen : projected_outs B (b ∷ []) A (a ∷ []) (item z none) ≡ Some none
   outs_seen = rw (out_b, in_a) refl
 
-  projected_is : at_method no_reply (λ j n. projected_reply B j n A i m answer) (counterpart A i m B) ≡ client (Ok (returned None none))
+  projected_is : at_method no_reply (λ b. projected_reply b (method_of A i m) answer) (counterpart (method_of A i m) B) ≡ client (Ok (returned None none))
   unfolding projected_answer
   projected_is =
-      ap (at_method no_reply (λ j n. projected_reply B j n A i m answer)) found
-      ∙ ap (λ t. then_outs (projected_result B (result_type B j n) A t None) (projected_outs B (arguments B j n) A (arguments A i m) (item z none))) result_a
-      ∙ ap (λ ys. then_outs (Some None) (projected_outs B ys A (arguments A i m) (item z none))) (ap arguments_of at_w ∙ only_b)
+      ap (at_method no_reply (λ b. projected_reply b (method_of A i m) answer)) found
+      ∙ ap (λ t. then_outs (projected_result B (result_type (method_of B j n)) A t None) (projected_outs B (arguments (method_of B j n)) A (arguments (method_of A i m)) (item z none))) result_a
+      ∙ ap (λ ys. then_outs (Some None) (projected_outs B ys A (arguments (method_of A i m)) (item z none))) (ap arguments_of at_w ∙ only_b)
       ∙ ap (λ xs. then_outs (Some None) (projected_outs B (b ∷ []) A xs (item z none))) (ap arguments_of at_v ∙ only_a)
       ∙ ap (λ os. then_outs (Some None) os) outs_seen
 
-  pub unasked_differs : at_method no_reply (λ j n. read_reply A i m B j n (answer_bytes B j n answer)) (counterpart A i m B) ≡ at_method no_reply (λ j n. projected_reply B j n A i m answer) (counterpart A i m B) → ⊥
+  pub unasked_differs : at_method no_reply (λ b. read_reply (method_of A i m) b (answer_bytes b answer)) (counterpart (method_of A i m) B) ≡ at_method no_reply (λ b. projected_reply b (method_of A i m) answer) (counterpart (method_of A i m) B) → ⊥
   unasked_differs e = let wrong : client (Err bad_value) ≡ client (Ok (returned None none)) = sym read_is ∙ e ∙ projected_is in absurd cc
 
-  pub unasked_fits : Fits B b.ty z → IsAnswerAt B (counterpart A i m B) answer
-  unasked_fits fits = subst (λ q. IsAnswerAt B q answer) (sym found)
+  pub unasked_fits : Fits B b.ty z → IsAnswerAt (counterpart (method_of A i m) B) answer
+  unasked_fits fits = subst (λ q. IsAnswerAt q answer) (sym found)
       (two_way_there, (subst (λ t. ResultFits B t None) (sym result_b) tt, subst (λ ts. EachFits B ts (item z none)) (sym outs_b) (fits, tt)))
 
 -- what stands after the length of an array of one
@@ -147,19 +148,19 @@ after_some A t z = by (is_raw A t)
 -- A request with an `inout` value for an `out` argument: something is left over.
 module _ (A B : List Decl) (holdsA : AllHold A) (holds : AllHold B) (apartA : AreApart name_of A) (i m : ℕ) (d : Decl) (v : Method) (here : slice_get A i ≡ Some d) (at : slice_get (methods_of d.kind) m ≡ Some v) (t : Spot) (like : IsLike A i v B t)
     (id : v.id ≡ t.method.id) (a b : Arg) (only_a : v.args ≡ a ∷ []) (only_b : t.method.args ≡ b ∷ []) (way_a : is_out a.way ≡ false) (way_b : is_out b.way ≡ true) (x : Data) where
-  arguments_a : arguments A i m ≡ a ∷ []
+  arguments_a : arguments (method_of A i m) ≡ a ∷ []
   arguments_a = ap arguments_of (mine A B holdsA apartA i m d v here at t like) ∙ only_a
 
-  arguments_b : arguments B t.interface t.position ≡ b ∷ []
+  arguments_b : arguments (method_of B t.interface t.position) ≡ b ∷ []
   arguments_b = ap arguments_of (his A B holdsA apartA i m d v here at t like) ∙ only_b
 
-  pub inout_fits : Fits A a.ty x → ArgsFit A i m (item x none)
+  pub inout_fits : Fits A a.ty x → ArgsFit (method_of A i m) (item x none)
   inout_fits fits = record {
     each = subst (λ xs. ArgumentsFit A xs (item x none)) (sym arguments_a) (rw way_a fits, tt);
     few = subst (λ xs. sum_of_lengths xs (item x none) ≤ 65536) (sym arguments_a) (rw way_a (omega arith));
   }
 
-  part_left : argument_parts A (arguments A i m) (item x none) ≡ spell A a.ty x
+  part_left : argument_parts A (arguments (method_of A i m)) (item x none) ≡ spell A a.ty x
   part_left = ap (λ xs. argument_parts A xs (item x none)) arguments_a ∙ rw way_a (append-nil (spell A a.ty x))
 
   abbrev then_one : Read Data → Side
@@ -175,20 +176,20 @@ module _ (A B : List Decl) (holdsA : AllHold A) (holds : AllHold B) (apartA : Ar
   abbrev then_view : Option Items → Side
   then_view o = side_of (or_status bad_value o >>= λ saw. Ok (receiver.called t.position saw))
 
-  projected_left : projected_request A i m B (item x none) ≡ called t.position (item (zero_in B b.ty) none)
+  projected_left : projected_request (method_of A i m) B (item x none) ≡ called t.position (item (zero_in B b.ty) none)
   projected_left =
       projected_by A B holds i m d v here at t.interface like.interface (item x none) (Some t.position) like.like
-      ∙ ap (λ xs. then_view (projected_arguments A xs B (arguments B t.interface t.position) (item x none))) arguments_a
+      ∙ ap (λ xs. then_view (projected_arguments A xs B (arguments (method_of B t.interface t.position)) (item x none))) arguments_a
       ∙ ap (λ ys. then_view (projected_arguments A (a ∷ []) B ys (item x none))) arguments_b
       ∙ ap (λ o. then_view (item_first o (Some none))) seen
 
   -- where what is read of the argument leaves bytes
-  pub inout_differs : length (request A i m (item x none)) ≤ 1048576 → (y : Data) (rest : List ℕ) → rest ≢ [] → argument_at Strict B 0 b (spell A a.ty x) ≡ Ok (y, rest)
-      → read_request A i m B (request A i m (item x none)) ≡ projected_request A i m B (item x none) → ⊥
+  pub inout_differs : length (request (method_of A i m) (item x none)) ≤ 1048576 → (y : Data) (rest : List ℕ) → rest ≢ [] → argument_at Strict B 0 b (spell A a.ty x) ≡ Ok (y, rest)
+      → read_request (method_of A i m) B (request (method_of A i m) (item x none)) ≡ projected_request (method_of A i m) B (item x none) → ⊥
   inout_differs few y rest some opened e =
-      let read : read_request A i m B (request A i m (item x none)) ≡ left t.position =
+      let read : read_request (method_of A i m) B (request (method_of A i m) (item x none)) ≡ left t.position =
       read_found A B holds i m d v here at t.interface like.interface (item x none) few t.position (code_there A B holds i m d v here at t like id)
-      ∙ ap (λ xs. side_of (arguments_at Strict B 0 xs (argument_parts A (arguments A i m) (item x none)) >>= λ saw. Ok (received t.position saw.0 saw.1))) arguments_b
+      ∙ ap (λ xs. side_of (arguments_at Strict B 0 xs (argument_parts A (arguments (method_of A i m)) (item x none)) >>= λ saw. Ok (received t.position saw.0 saw.1))) arguments_b
       ∙ ap (λ p. side_of (arguments_at Strict B 0 (b ∷ []) p >>= λ saw. Ok (received t.position saw.0 saw.1))) part_left
       ∙ ap then_one opened ∙ left_is y rest some in
       let wrong : left t.position ≡ called t.position (item (zero_in B b.ty) none) = sym read ∙ e ∙ projected_left in absurd cc
@@ -301,16 +302,16 @@ module _ (old new : List Decl) (holds_old : AllHold old) (holds_new : AllHold ne
     back : IsLike new t.interface t.method old s
     back = like_back old new holds_old apart_old s.interface s.position d s.method here at t like
 
-    at_s : method_at old s.interface s.position ≡ Some s.method
+    at_s : method_at (method_of old s.interface s.position) ≡ Some s.method
     at_s = mine old new holds_old apart_old s.interface s.position d s.method here at t like
 
-    at_t : method_at new t.interface t.position ≡ Some t.method
+    at_t : method_at (method_of new t.interface t.position) ≡ Some t.method
     at_t = his old new holds_old apart_old s.interface s.position d s.method here at t like
 
-    named_t : counterpart old s.interface s.position new ≡ Some (t.interface, t.position)
+    named_t : counterpart (method_of old s.interface s.position) new ≡ Some (method_of new t.interface t.position)
     named_t = named old new holds_old apart_old s.interface s.position d s.method here at t like
 
-    named_s : counterpart new t.interface t.position old ≡ Some (s.interface, s.position)
+    named_s : counterpart (method_of new t.interface t.position) old ≡ Some (method_of old s.interface s.position)
     named_s = named new old holds_new apart_new t.interface t.position like.spot.decl t.method like.spot.here like.spot.at s back
 
     type_a : is_type old a.ty ≡ true

@@ -10,6 +10,7 @@ use Rattle.aidl_schema.specs.Names.{name_of, methods_of}
 use Rattle.aidl_schema.specs.Same.{same_bool}
 use Rattle.aidl_schema.specs.Unbroken.{Has}
 use Rattle.wire_model.specs.Calls.{is_oneway, is_oneway_of}
+use Rattle.wire_model.specs.MethodOf.{method_of}
 use Rattle.compat_witness.specs.Candidates.{Candidate, AreSmall, Shows, counterpart, read_side, projected_side, IsAnswerAt, at_method, answer_bytes}
 use Rattle.compat_witness.specs.Candidates as candidate
 use Rattle.compat_witness.specs.Places.{Spot}
@@ -21,22 +22,22 @@ use Rattle.compat_witness.proofs.Entries.{entry, in_places}
 use Rattle.compat_witness.proofs.Pairs.{named, like_back, pair_is, in_both_is}
 
 -- A reply of a oneway method to a client that waits for one.
-module _ (A : List Decl) (i m : ℕ) (B : List Decl) (j n : ℕ) (found : counterpart A i m B ≡ Some (j, n)) where
-  pub nothing_fits : is_oneway B j n ≡ true → IsAnswerAt B (counterpart A i m B) None
-  nothing_fits one = subst (λ q. IsAnswerAt B q None) (sym found) one
+module _ (A : List Decl) (i m : ℕ) (B : List Decl) (j n : ℕ) (found : counterpart (method_of A i m) B ≡ Some (method_of B j n)) where
+  pub nothing_fits : is_oneway (method_of B j n) ≡ true → IsAnswerAt (counterpart (method_of A i m) B) None
+  nothing_fits one = subst (λ q. IsAnswerAt q None) (sym found) one
 
-  pub nothing_small : length (at_method [] (λ j n. answer_bytes B j n None) (counterpart A i m B)) ≤ 1048576
-  nothing_small = subst (λ q. length (at_method [] (λ j n. answer_bytes B j n None) q) ≤ 1048576) (sym found) (omega arith)
+  pub nothing_small : length (at_method [] (λ b. answer_bytes b None) (counterpart (method_of A i m) B)) ≤ 1048576
+  nothing_small = subst (λ q. length (at_method [] (λ b. answer_bytes b None) q) ≤ 1048576) (sym found) (omega arith)
 
-  no_reply_is : is_oneway B j n ≡ true → at_method no_reply (λ j n. read_reply A i m B j n (answer_bytes B j n None)) (counterpart A i m B) ≡ no_reply
-  no_reply_is one = ap (at_method no_reply (λ j n. read_reply A i m B j n (answer_bytes B j n None))) found ∙ rw one refl
+  no_reply_is : is_oneway (method_of B j n) ≡ true → at_method no_reply (λ b. read_reply (method_of A i m) b (answer_bytes b None)) (counterpart (method_of A i m) B) ≡ no_reply
+  no_reply_is one = ap (at_method no_reply (λ b. read_reply (method_of A i m) b (answer_bytes b None))) found ∙ rw one refl
 
-  awaited : at_method no_reply (λ j n. projected_reply B j n A i m None) (counterpart A i m B) ≡ client (projected_answer B j n A i m None)
-  awaited = ap (at_method no_reply (λ j n. projected_reply B j n A i m None)) found
+  awaited : at_method no_reply (λ b. projected_reply b (method_of A i m) None) (counterpart (method_of A i m) B) ≡ client (projected_answer (method_of B j n) (method_of A i m) None)
+  awaited = ap (at_method no_reply (λ b. projected_reply b (method_of A i m) None)) found
 
-  pub nothing_differs : is_oneway B j n ≡ true
-      → at_method no_reply (λ j n. read_reply A i m B j n (answer_bytes B j n None)) (counterpart A i m B) ≡ at_method no_reply (λ j n. projected_reply B j n A i m None) (counterpart A i m B) → ⊥
-  nothing_differs one e = let wrong : no_reply ≡ client (projected_answer B j n A i m None) = sym (no_reply_is one) ∙ e ∙ awaited in absurd cc
+  pub nothing_differs : is_oneway (method_of B j n) ≡ true
+      → at_method no_reply (λ b. read_reply (method_of A i m) b (answer_bytes b None)) (counterpart (method_of A i m) B) ≡ at_method no_reply (λ b. projected_reply b (method_of A i m) None) (counterpart (method_of A i m) B) → ⊥
+  nothing_differs one e = let wrong : no_reply ≡ client (projected_answer (method_of B j n) (method_of A i m) None) = sym (no_reply_is one) ∙ e ∙ awaited in absurd cc
 
 one_alone : (a b : Bool) → not (same_bool a b) ≡ true → a ≡ false → b ≡ true
 one_alone a true h e = refl
@@ -60,16 +61,16 @@ module _ (old new : List Decl) (holds_old : AllHold old) (holds_new : AllHold ne
       let q = pair_is old new holds_old holds_new apart_old apart_new e.before e.after v w s t e.here e.there pair y.found y.like in
       let met = given_is (is_empty s.method.args && is_empty t.method.args) (cond s.method.oneway (candidate.reply true t.interface t.position None) (candidate.reply false s.interface s.position None) ∷ []) cs y.given in
       let alone : not (same_bool s.method.oneway t.method.oneway) ≡ true = subst (λ (u : Method). not (same_bool u.oneway t.method.oneway) ≡ true) (sym q.spot.method) (subst (λ (u : Method). not (same_bool v.oneway u.oneway) ≡ true) (sym q.other) x.2) in
-      let oneway_s : is_oneway old s.interface s.position ≡ s.method.oneway =
+      let oneway_s : is_oneway (method_of old s.interface s.position) ≡ s.method.oneway =
       ap (λ o. is_oneway_of (slice_get (methods_of_decl o) s.position)) q.spot.here ∙ ap is_oneway_of q.spot.at ∙ ap (λ (u : Method). u.oneway) (sym q.spot.method) in
-      let oneway_t : is_oneway new t.interface t.position ≡ t.method.oneway = ap (λ o. is_oneway_of (slice_get (methods_of_decl o) t.position)) q.like.spot.here ∙ ap is_oneway_of q.like.spot.at in
+      let oneway_t : is_oneway (method_of new t.interface t.position) ≡ t.method.oneway = ap (λ o. is_oneway_of (slice_get (methods_of_decl o) t.position)) q.like.spot.here ∙ ap is_oneway_of q.like.spot.at in
       let forth = named old new holds_old apart_old s.interface s.position e.before v q.spot.here q.spot.at t q.like in
       let back = named new old holds_new apart_new t.interface t.position q.like.spot.decl t.method q.like.spot.here q.like.spot.at (record { interface = s.interface; position = s.position; method = v })
       (like_back old new holds_old apart_old s.interface s.position e.before v q.spot.here q.spot.at t q.like) in
       by s t s.method.oneway refl alone oneway_s oneway_t forth back met.1
     where
-      by : (s t : Spot) (b : Bool) → s.method.oneway ≡ b → not (same_bool s.method.oneway t.method.oneway) ≡ true → is_oneway old s.interface s.position ≡ s.method.oneway → is_oneway new t.interface t.position ≡ t.method.oneway
-          → counterpart old s.interface s.position new ≡ Some (t.interface, t.position) → counterpart new t.interface t.position old ≡ Some (s.interface, s.position)
+      by : (s t : Spot) (b : Bool) → s.method.oneway ≡ b → not (same_bool s.method.oneway t.method.oneway) ≡ true → is_oneway (method_of old s.interface s.position) ≡ s.method.oneway → is_oneway (method_of new t.interface t.position) ≡ t.method.oneway
+          → counterpart (method_of old s.interface s.position) new ≡ Some (method_of new t.interface t.position) → counterpart (method_of new t.interface t.position) old ≡ Some (method_of old s.interface s.position)
           → cond s.method.oneway (candidate.reply true t.interface t.position None) (candidate.reply false s.interface s.position None) ∷ [] ≡ cs → Shows old new cs
       by s t true one alone oneway_s oneway_t forth back is =
           let c = candidate.reply true t.interface t.position None in

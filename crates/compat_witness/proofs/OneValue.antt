@@ -13,6 +13,7 @@ use Rattle.aidl_schema.specs.Names.{name_of}
 use Rattle.aidl_schema.specs.Types.{is_one}
 use Rattle.aidl_values.specs.Data.{Data, null, truth, number, text, seq, rec, alt, none, item}
 use Rattle.aidl_values.specs.HasType.{HasType}
+use Rattle.wire_model.specs.MethodOf.{method_of}
 use Rattle.wire_model.specs.ReadOf.{read_of}
 use Rattle.wire_model.specs.Requests.{ArgsFit, request}
 use Rattle.wire_model.specs.Spell.{spell}
@@ -132,16 +133,16 @@ module _ (A B : List Decl) (holds : AllHold B) (apart : AreApart name_of B) (k i
       from_bare A B x s.a.ty s.b.ty (subst (λ t. IsSeen A B x t (bare s.b.ty)) bare_a (subst (λ u. IsSeen A B x (bare r.a.ty) u) bare_b (to_bare A B x r.a.ty r.b.ty e)))
 
   -- The value fits the one, and so it does the other.
-  fits_too : ArgsFit A j n (item x none) → ArgsFit A i m (item x none)
+  fits_too : ArgsFit (method_of A j n) (item x none) → ArgsFit (method_of A i m) (item x none)
   fits_too h =
       let fits = argument_fits A B holds j n s.decl s.method s.here s.at s.other s.like s.id s.a s.b s.only_a s.only_b s.in_a s.in_b x h in
       args_fit A B holds i m r.decl r.method r.here r.at r.other r.like r.id r.a r.b r.only_a r.only_b r.in_a r.in_b x
       (record { typed = from_typed A r.a.ty x (subst (λ t. HasType A t x) (sym bare_a) (to_typed A s.a.ty x fits.typed)); deep = fits.deep })
 
   -- The sides of the one are equal, and so are those of the other.
-  equal_too : length (request A i m (item x none)) ≤ 1048576 → length (request A j n (item x none)) ≤ 1048576
-      → read_request A i m B (request A i m (item x none)) ≡ projected_request A i m B (item x none)
-      → read_request A j n B (request A j n (item x none)) ≡ projected_request A j n B (item x none)
+  equal_too : length (request (method_of A i m) (item x none)) ≤ 1048576 → length (request (method_of A j n) (item x none)) ≤ 1048576
+      → read_request (method_of A i m) B (request (method_of A i m) (item x none)) ≡ projected_request (method_of A i m) B (item x none)
+      → read_request (method_of A j n) B (request (method_of A j n) (item x none)) ≡ projected_request (method_of A j n) B (item x none)
   equal_too few_r few_s e =
       let seen = same_sides r.other.position (read_of Strict B 64 r.b.ty false (spell A r.a.ty x)) (view_of A r.a.ty B r.b.ty x)
       (sym (read_is A B holds i m r.decl r.method r.here r.at r.other r.like r.id r.a r.b r.only_a r.only_b r.in_a r.in_b x few_r) ∙ e

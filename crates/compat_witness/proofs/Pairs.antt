@@ -12,6 +12,7 @@ use Rattle.aidl_schema.specs.Names.{name_of, methods_of}
 use Rattle.aidl_schema.specs.Same.{same_text}
 use Rattle.aidl_schema.specs.Unbroken.{Has, AreBoth}
 use Rattle.wire_model.specs.Calls.{descriptor, name_of_decl, method_at}
+use Rattle.wire_model.specs.MethodOf.{method_of}
 use Rattle.wire_model.specs.Outcome.{declared_as, method_like}
 use Rattle.wire_model.proofs.lemmas.Lookups.{found_is, same_place, position_is, position_passes}
 use Rattle.compat_witness.specs.Candidates.{Candidate, counterpart}
@@ -25,15 +26,15 @@ use Rattle.compat_witness.proofs.Spots.{and_then_is, map_is, IsSpotOf, spot_is, 
 -- the method m of the interface i of A, like the spot s of B
 module _ (A B : List Decl) (holdsA : AllHold A) (apartA : AreApart name_of A) (i m : ℕ) (d : Decl) (v : Method) (here : slice_get A i ≡ Some d) (at : slice_get (methods_of d.kind) m ≡ Some v)
     (s : Spot) (like : IsLike A i v B s) where
-  pub mine : method_at A i m ≡ Some v
+  pub mine : method_at (method_of A i m) ≡ Some v
   mine = ap (λ o. slice_get (methods_of_decl o) m) here ∙ at
 
-  pub his : method_at B s.interface s.position ≡ Some s.method
+  pub his : method_at (method_of B s.interface s.position) ≡ Some s.method
   his = ap (λ o. slice_get (methods_of_decl o) s.position) like.spot.here ∙ like.spot.at
 
-  pub named : counterpart A i m B ≡ Some (s.interface, s.position)
+  pub named : counterpart (method_of A i m) B ≡ Some (method_of B s.interface s.position)
   named =
-      let found : method_like (method_at A i m) (methods_at B s.interface) ≡ Some s.position = ap (λ o. method_like o (methods_at B s.interface)) mine ∙ like.like in
+      let found : method_like (method_at (method_of A i m)) (methods_at B s.interface) ≡ Some s.position = ap (λ o. method_like o (methods_at B s.interface)) mine ∙ like.like in
       rw (like.interface, found) refl
 
   pub back_interface : declared_as A (descriptor B s.interface) ≡ Some i

@@ -24,6 +24,7 @@ use Rattle.aidl_schema.specs.Types.{is_one}
 use Rattle.aidl_schema.specs.Unbroken.{Has}
 use Rattle.aidl_values.specs.Data.{Data, none, item}
 use Rattle.wire_model.specs.Calls.{descriptor, name_of_decl, method_at}
+use Rattle.wire_model.specs.MethodOf.{method_of}
 use Rattle.wire_model.specs.Outcome.{declared_as, method_like}
 use Rattle.wire_model.proofs.lemmas.Lookups.{position_is, position_passes}
 use Rattle.compat_witness.specs.Candidates.{request}
@@ -246,7 +247,7 @@ module _ (A B : List Decl) (k l : ℕ) (holdsA : AllHold A) (apartA : AreApart n
 
   back_spot : spot_like B r.other.interface r.other.method A ≡ Some (record { interface = i; position = m; method = r.method })
   back_spot =
-      let at : method_at A i m ≡ Some r.method = ap (λ o. slice_get (methods_of_decl o) m) r.here ∙ r.at in
+      let at : method_at (method_of A i m) ≡ Some r.method = ap (λ o. slice_get (methods_of_decl o) m) r.here ∙ r.at in
       rw (back_interface, back_method, at) refl
 
   pub back_reaches : reaches B l A r.other.interface r.other.method ≡ true

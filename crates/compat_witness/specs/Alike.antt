@@ -1,6 +1,6 @@
 -- A value that is sent to the methods that reach a declaration: what its two sides are doesn't depend on the method
 -- (own). A is the client's declarations, B the server's, k the number of the declaration in A.
-use Rattle.std.specs.Prelude.{ℕ, ◌≤◌, false, List, length}
+use Rattle.std.specs.Prelude.{ℕ, ◌≤◌, List, length}
 use Rattle.aidl_schema.specs.declared.schema.Decl.{Decl}
 use Rattle.aidl_schema.specs.Unbroken.{Has}
 use Rattle.aidl_values.specs.Data.{Data, none, item}

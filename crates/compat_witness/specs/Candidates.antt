@@ -7,6 +7,7 @@ use Rattle.aidl_schema.specs.Find.{methods_at}
 use Rattle.aidl_schema.specs.Unbroken.{Has}
 use Rattle.aidl_values.specs.Data.{Items}
 use Rattle.wire_model.specs.Calls.{AnswerData, descriptor, is_oneway, method_at}
+use Rattle.wire_model.specs.MethodOf.{MethodOf, method_of}
 use Rattle.wire_model.specs.Outcome.{declared_as, method_like}
 use Rattle.wire_model.specs.Requests.{ArgsFit, IsAnswer}
 use Rattle.wire_model.specs.Requests as wire
@@ -47,67 +48,69 @@ client_of back old new = if back then new else old
 abbrev pub server_of : Bool → List Decl → List Decl → List Decl
 server_of back old new = if back then old else new
 
--- the interface and the method of B that have the names of those of A
-abbrev pub counterpart : List Decl → ℕ → ℕ → List Decl → Option (ℕ × ℕ)
-counterpart A i m B =
-    option_and_then (λ j. option_map (λ n. (j, n)) (method_like (method_at A i m) (methods_at B j)))
-    (declared_as B (descriptor A i))
+-- the client's method
+abbrev pub callee : List Decl → List Decl → Candidate → MethodOf
+callee old new c = method_of (client_of c.back old new) c.interface c.method
+
+-- the method of B that has the names of the method a
+abbrev pub counterpart : MethodOf → List Decl → Option MethodOf
+counterpart a B = option_and_then (λ j. option_map (λ n. method_of B j n) (method_like (method_at a) (methods_at B j)))
+    (declared_as B (descriptor a.declarations a.interface))
 
 -- something of the server's method, where there is one
-abbrev pub at_method : {X : Type 0} → X → (ℕ → ℕ → X) → Option (ℕ × ℕ) → X
+abbrev pub at_method : {X : Type 0} → X → (MethodOf → X) → Option MethodOf → X
 at_method x F None = x
-at_method x F (Some q) = F q.0 q.1
+at_method x F (Some b) = F b
 
 -- the bytes of an answer; none of a oneway method
-abbrev pub answer_bytes : List Decl → ℕ → ℕ → Option AnswerData → List ℕ
-answer_bytes B j n None = []
-answer_bytes B j n (Some a) = wire.reply B j n a
+abbrev pub answer_bytes : MethodOf → Option AnswerData → List ℕ
+answer_bytes b None = []
+answer_bytes b (Some answer) = wire.reply b answer
 
--- the bytes of what is sent between a client A and a server B: the spelled request or reply; none of a reply whose
--- method the server lacks
-abbrev pub bytes_between : List Decl → List Decl → ℕ → ℕ → Values → List ℕ
-bytes_between A B i m (arguments args) = wire.request A i m args
-bytes_between A B i m (answered a) = at_method [] (λ j n. answer_bytes B j n a) (counterpart A i m B)
+-- the bytes of what is sent between a client's method a and a server B: the spelled request or reply; none of a reply
+-- whose method the server lacks
+abbrev pub bytes_between : MethodOf → List Decl → Values → List ℕ
+bytes_between a B (arguments args) = wire.request a args
+bytes_between a B (answered answer) = at_method [] (λ b. answer_bytes b answer) (counterpart a B)
 
 -- the bytes of a candidate
 abbrev pub bytes_of : List Decl → List Decl → Candidate → List ℕ
-bytes_of old new c = bytes_between (client_of c.back old new) (server_of c.back old new) c.interface c.method c.values
+bytes_of old new c = bytes_between (callee old new c) (server_of c.back old new) c.values
 
 -- It is an answer of the server's two-way method; there is none exactly where that one is oneway.
-abbrev pub IsAnswerOf : List Decl → ℕ → ℕ → Option AnswerData → Type 0
-IsAnswerOf B j n None = is_oneway B j n ≡ true
-IsAnswerOf B j n (Some a) = (is_oneway B j n ≡ false) × IsAnswer B j n a
+abbrev pub IsAnswerOf : MethodOf → Option AnswerData → Type 0
+IsAnswerOf b None = is_oneway b ≡ true
+IsAnswerOf b (Some answer) = (is_oneway b ≡ false) × IsAnswer b answer
 
 -- the same, where the server has the method
-abbrev pub IsAnswerAt : List Decl → Option (ℕ × ℕ) → Option AnswerData → Type 0
-IsAnswerAt B None answer = ⊥
-IsAnswerAt B (Some q) answer = IsAnswerOf B q.0 q.1 answer
+abbrev pub IsAnswerAt : Option MethodOf → Option AnswerData → Type 0
+IsAnswerAt None answer = ⊥
+IsAnswerAt (Some b) answer = IsAnswerOf b answer
 
 -- the arguments fit the client's method, or the answer the server's
-abbrev pub fit_between : List Decl → List Decl → ℕ → ℕ → Values → Type 0
-fit_between A B i m (arguments args) = ArgsFit A i m args
-fit_between A B i m (answered a) = IsAnswerAt B (counterpart A i m B) a
+abbrev pub fit_between : MethodOf → List Decl → Values → Type 0
+fit_between a B (arguments args) = ArgsFit a args
+fit_between a B (answered answer) = IsAnswerAt (counterpart a B) answer
 
 abbrev pub ValuesFit : List Decl → List Decl → Candidate → Type 0
-ValuesFit old new c = fit_between (client_of c.back old new) (server_of c.back old new) c.interface c.method c.values
+ValuesFit old new c = fit_between (callee old new c) (server_of c.back old new) c.values
 
 -- what is read of the bytes
-abbrev pub read_between : List Decl → List Decl → ℕ → ℕ → Values → Side
-read_between A B i m (arguments args) = read_request A i m B (wire.request A i m args)
-read_between A B i m (answered a) =
-    at_method no_reply (λ j n. read_reply A i m B j n (answer_bytes B j n a)) (counterpart A i m B)
+abbrev pub read_between : MethodOf → List Decl → Values → Side
+read_between a B (arguments args) = read_request a B (wire.request a args)
+read_between a B (answered answer) =
+    at_method no_reply (λ b. read_reply a b (answer_bytes b answer)) (counterpart a B)
 
 abbrev pub read_side : List Decl → List Decl → Candidate → Side
-read_side old new c = read_between (client_of c.back old new) (server_of c.back old new) c.interface c.method c.values
+read_side old new c = read_between (callee old new c) (server_of c.back old new) c.values
 
 -- what the values are to the other version
-abbrev pub projected_between : List Decl → List Decl → ℕ → ℕ → Values → Side
-projected_between A B i m (arguments args) = projected_request A i m B args
-projected_between A B i m (answered a) = at_method no_reply (λ j n. projected_reply B j n A i m a) (counterpart A i m B)
+abbrev pub projected_between : MethodOf → List Decl → Values → Side
+projected_between a B (arguments args) = projected_request a B args
+projected_between a B (answered answer) = at_method no_reply (λ b. projected_reply b a answer) (counterpart a B)
 
 abbrev pub projected_side : List Decl → List Decl → Candidate → Side
-projected_side old new c =
-    projected_between (client_of c.back old new) (server_of c.back old new) c.interface c.method c.values
+projected_side old new c = projected_between (callee old new c) (server_of c.back old new) c.values
 
 -- A candidate counts where its values fit and its bytes are at most 1,048,576.
 pub record Counts (old new : List Decl) (c : Candidate) : Type 0 where

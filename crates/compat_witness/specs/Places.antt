@@ -8,6 +8,7 @@ use Rattle.aidl_schema.specs.Find.{methods_at}
 use Rattle.aidl_schema.specs.Same.{same_text}
 use Rattle.wire_model.specs.Calls.{descriptor, method_at}
 pub use Rattle.wire_model.specs.Dots.{at_last_dot, behind, or_else}
+use Rattle.wire_model.specs.MethodOf.{method_of}
 use Rattle.wire_model.specs.Outcome.{declared_as, method_like}
 
 -- what stands before the first slash of a place, and what stands behind it
@@ -24,7 +25,8 @@ pub record Spot : Type 0 where
 -- the method at a position of an interface, where one was found
 abbrev pub spot_at : List Decl → ℕ → Option ℕ → Option Spot
 spot_at S i found =
-    option_and_then (λ m. option_map (λ v. record { interface = i; position = m; method = v }) (method_at S i m)) found
+    option_and_then (λ m. option_map (λ v. record { interface = i; position = m; method = v })
+    (method_at (method_of S i m))) found
 
 -- the method that a place `n.method` names
 abbrev pub spot_of : List Decl → Place → Option Spot

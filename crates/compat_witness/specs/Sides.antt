@@ -1,6 +1,5 @@
--- *Compared sides*: what is read of a shown call, and what the call is projected to (own). A is the client's
--- declarations, i and m its interface and method, B the server's declarations, j and n the interface and the method
--- there. All reading is strict.
+-- *Compared sides*: what is read of a shown call, and what the call is projected to (own). a is the client's method,
+-- b the server's; A and B are the declarations of client and server. All reading is strict.
 use Rattle.std.specs.Prelude.{ℕ, ℤ, ◌&&◌, if◌then◌else◌, List, [], ◌∷◌, Option, Some, None, option_map, Result, Ok, Err}
 use Rattle.aidl_base.specs.declared.profile.Profile.TheVariants.{Strict}
 use Rattle.aidl_schema.specs.declared.schema.AidlType.{AidlType}
@@ -12,6 +11,7 @@ use Rattle.aidl_schema.specs.Same.{same}
 use Rattle.aidl_values.specs.Data.{Data, Items, none, item}
 use Rattle.wire_model.specs.Calls.{AnswerData, returned, exception, descriptor, method_at, arguments, result_type}
 use Rattle.wire_model.specs.Calls.{code_at, is_oneway, is_out}
+use Rattle.wire_model.specs.MethodOf.{MethodOf, method_of}
 use Rattle.wire_model.specs.Outcome.{declared_as, method_like}
 use Rattle.wire_model.specs.ReadOf.{◌>>=◌}
 use Rattle.wire_model.specs.Receiver.{Received, zero_in, opening, or_status, stub}
@@ -43,12 +43,13 @@ received_by B None code b = Err unknown_transaction
 received_by B (Some j) code b = stub Strict B j code b
 
 -- the stub of the server's interface of that name, asked by the code of the client's method
-abbrev pub read_request : List Decl → ℕ → ℕ → List Decl → List ℕ → Side
-read_request A i m B b = side_of (received_by B (declared_as B (descriptor A i)) (code_at A i m) b)
+abbrev pub read_request : MethodOf → List Decl → List ℕ → Side
+read_request a B bytes =
+    side_of (received_by B (declared_as B (descriptor a.declarations a.interface)) (code_at a) bytes)
 
 -- of a oneway method there is no reply
-abbrev pub read_reply : List Decl → ℕ → ℕ → List Decl → ℕ → ℕ → List ℕ → Side
-read_reply A i m B j n b = if is_oneway B j n then no_reply else client (receiver.client Strict A i m b)
+abbrev pub read_reply : MethodOf → MethodOf → List ℕ → Side
+read_reply a b bytes = if is_oneway b then no_reply else client (receiver.client Strict a bytes)
 
 -- What a request is projected to
 
@@ -68,17 +69,17 @@ projected_arguments A (a ∷ xs) B (b ∷ ys) (item v vs) =
     item_first (projected_argument A a B b v) (projected_arguments A xs B ys vs)
 
 -- by the names of interface and method
-unfoldable pub projected_call : List Decl → ℕ → ℕ → List Decl → Items → Result Received ℤ
-projected_call A i m B args = do
+unfoldable pub projected_call : MethodOf → List Decl → Items → Result Received ℤ
+projected_call a B args = do
   -- UNKNOWN_TRANSACTION: the server lacks the interface,
-  j ← or_status unknown_transaction (declared_as B (descriptor A i))
-  n ← or_status unknown_transaction (method_like (method_at A i m) (methods_at B j))  -- or the method
+  j ← or_status unknown_transaction (declared_as B (descriptor a.declarations a.interface))
+  n ← or_status unknown_transaction (method_like (method_at a) (methods_at B j))  -- or the method
   -- BAD_VALUE: an argument has no view
-  saw ← or_status bad_value (projected_arguments A (arguments A i m) B (arguments B j n) args)
+  saw ← or_status bad_value (projected_arguments a.declarations (arguments a) B (arguments (method_of B j n)) args)
   Ok (receiver.called n saw)
 
-abbrev pub projected_request : List Decl → ℕ → ℕ → List Decl → Items → Side
-projected_request A i m B args = side_of (projected_call A i m B args)
+abbrev pub projected_request : MethodOf → List Decl → Items → Side
+projected_request a B args = side_of (projected_call a B args)
 
 -- What a reply is projected to
 
@@ -118,17 +119,18 @@ projected_outs B (b ∷ ys) A (a ∷ xs) vs = if is_in_way b.way
     else out_first a (projected_out B b A a (first_of vs)) (projected_outs B ys A xs (others_of vs))
 
 -- the same exception, or the views of result and outs; without an answer the defaults
-unfoldable pub projected_answer : List Decl → ℕ → ℕ → List Decl → ℕ → ℕ → Option AnswerData → Result AnswerData ℤ
-projected_answer B j n A i m (Some (exception code message error)) = Ok (exception code message error)
-projected_answer B j n A i m (Some (returned result outs)) = do
+unfoldable pub projected_answer : MethodOf → MethodOf → Option AnswerData → Result AnswerData ℤ
+projected_answer b a (Some (exception code message error)) = Ok (exception code message error)
+projected_answer b a (Some (returned result outs)) = do
   -- BAD_VALUE: the result,
-  r ← or_status bad_value (projected_result B (result_type B j n) A (result_type A i m) result)
-  vs ← or_status bad_value (projected_outs B (arguments B j n) A (arguments A i m) outs)  -- or an out has no view
+  r ← or_status bad_value (projected_result b.declarations (result_type b) a.declarations (result_type a) result)
+  -- or an out has no view
+  vs ← or_status bad_value (projected_outs b.declarations (arguments b) a.declarations (arguments a) outs)
   Ok (returned r vs)
-projected_answer B j n A i m None = do
-  r ← or_status bad_value (projected_result B None A (result_type A i m) None)
-  vs ← or_status bad_value (projected_outs B [] A (arguments A i m) none)
+projected_answer b a None = do
+  r ← or_status bad_value (projected_result b.declarations None a.declarations (result_type a) None)
+  vs ← or_status bad_value (projected_outs b.declarations [] a.declarations (arguments a) none)
   Ok (returned r vs)
 
-abbrev pub projected_reply : List Decl → ℕ → ℕ → List Decl → ℕ → ℕ → Option AnswerData → Side
-projected_reply B j n A i m answer = client (projected_answer B j n A i m answer)
+abbrev pub projected_reply : MethodOf → MethodOf → Option AnswerData → Side
+projected_reply b a answer = client (projected_answer b a answer)

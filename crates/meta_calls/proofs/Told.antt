@@ -1,5 +1,5 @@
 -- What is answered by *MetaStub*: where something is told, and of every other code.
-use Rattle.std.proofs.Common.{◌≡◌, ℕ, ℤ, ◌++◌, pos, List, Option, Some, None, option_map, Result, Ok, Err, IfOk, refl, subst}
+use Rattle.std.proofs.Common.{◌≡◌, ℕ, ℤ, ◌++◌, pos, List, Option, Some, None, option_map, Result, Ok, Err, IfOk, subst}
 use Rattle.std.specs.Borrow.{Bor}
 use Rattle.aidl_base.specs.Words.{word}
 use Rattle.aidl_base.specs.declared.memory.OutOfMemory.{OutOfMemory}
@@ -12,7 +12,7 @@ use Rattle.meta_calls.specs.steps.Told.{told_answer}
 use Rattle.stub_dispatch.specs.Answers.{Answers}
 use Rattle.stub_dispatch.specs.declared.answered.Answered.{Answered}
 use Rattle.wire_model.specs.Calls.{descriptor}
-use Rattle.wire_model.specs.MetaStub.{MetaReceived, inner, meta_by, own, own_reply}
+use Rattle.wire_model.specs.MetaStub.{inner, meta_by, own, own_reply}
 use Rattle.wire_model.specs.ReadOf.{◌>>=◌}
 use Rattle.wire_model.specs.Receiver.{Received, stub, token_at}
 

@@ -11,6 +11,7 @@ use Rattle.stub_dispatch.specs.Answers.{Answers}
 use Rattle.stub_dispatch.specs.Unscripted.{not_scripted}
 use Rattle.stub_dispatch.specs.declared.answered.Answered.{Answered}
 use Rattle.wire_model.specs.Calls.{answer_of}
+use Rattle.wire_model.specs.MethodOf.{method_of}
 use Rattle.wire_model.specs.Receiver.{Received, left, called, stub}
 use Rattle.wire_model.specs.Typed.{AreArguments}
 use Rattle.parcel_replay.specs.Traced.{Traced, other, not_trace, too_large, request}
@@ -33,7 +34,8 @@ Replays S i (request code b) r = (a : Answered) × (r ≡ Got a) × Answers IsUn
 abbrev pub IsLawful : List Decl → ℕ → ℕ → Result Received ℤ → Type 0
 IsLawful S i code (Err status) = status ≢ pos 0
 IsLawful S i code (Ok (left m)) = Unit {0}
-IsLawful S i code (Ok (called m saw)) = (position_of_code (methods_at S i) code ≡ Some m) × AreArguments S i m saw
+IsLawful S i code (Ok (called m saw)) =
+    (position_of_code (methods_at S i) code ≡ Some m) × AreArguments (method_of S i m) saw
 
 abbrev pub IsLawfulRequest : List Decl → ℕ → Traced → Type 0
 IsLawfulRequest S i (request code b) = IsLawful S i code (stub Strict S i code b)

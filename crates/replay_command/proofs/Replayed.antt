@@ -20,6 +20,7 @@ use Rattle.parcel_replay.specs.declared.replaying.Replayed.TheVariants.{Got}
 use Rattle.stub_dispatch.specs.Answers.{Answers}
 use Rattle.stub_dispatch.specs.declared.answered.Answered.{Answered}
 use Rattle.wire_model.specs.Calls.{arguments}
+use Rattle.wire_model.specs.MethodOf.{method_of}
 use Rattle.wire_model.specs.Receiver.{Received, left, called, stub}
 use Rattle.wire_model.specs.Typed.{AreArguments, types_of}
 use Rattle.run_command.specs.LineText.{saw_text, values_text}
@@ -49,21 +50,21 @@ module _ (S : List Decl) (i k : ℕ) (ms : Option Methods) where
   module _ (code : ℕ) (of : AreOfCode S i code ms) where
     module _ (m : ℕ) (found : position_of_code (methods_at S i) code ≡ Some m) where
       called_by : (saw : Items) (values : List Value) → views values ≡ saw → (ns : Option Methods) → AreOfCode S i code ns
-          → called_line k (saw_text S ns (Some (views values))) ≡ called_line k (values_text S (types_of (arguments S i m)) saw)
+          → called_line k (saw_text S ns (Some (views values))) ≡ called_line k (values_text S (types_of (arguments (method_of S i m))) saw)
       called_by saw values same None none = let never : ◌≡◌ {A = Option ℕ} None (Some m) = sym none ∙ found in cc
       called_by saw values same (Some n) is =
           let one : n.server ≡ i = is.0 in
           let two : n.called ≡ m = ap (λ (o : Option ℕ). unwrap_or o m) (sym is.1 ∙ found) in
-          ap (λ (j : ℕ). called_line k (values_text S (types_of (arguments S j n.called)) (views values))) one
-          ∙ ap (λ (l : ℕ). called_line k (values_text S (types_of (arguments S i l)) (views values))) two
-          ∙ ap (λ (vs : Items). called_line k (values_text S (types_of (arguments S i m)) vs)) same
+          ap (λ (j : ℕ). called_line k (values_text S (types_of (arguments (method_of S j n.called))) (views values))) one
+          ∙ ap (λ (l : ℕ). called_line k (values_text S (types_of (arguments (method_of S i l))) (views values))) two
+          ∙ ap (λ (vs : Items). called_line k (values_text S (types_of (arguments (method_of S i m))) vs)) same
 
-      typed_by : (values : List Value) → AreArguments S i m (views values) → (ns : Option Methods) → AreOfCode S i code ns → IsSeenBy S ns (Some values)
+      typed_by : (values : List Value) → AreArguments (method_of S i m) (views values) → (ns : Option Methods) → AreOfCode S i code ns → IsSeenBy S ns (Some values)
       typed_by values typed None none = let never : ◌≡◌ {A = Option ℕ} None (Some m) = sym none ∙ found in cc
       typed_by values typed (Some n) is =
           let one : n.server ≡ i = is.0 in
           let two : n.called ≡ m = ap (λ (o : Option ℕ). unwrap_or o m) (sym is.1 ∙ found) in
-          subst (λ (l : ℕ). AreArguments S n.server l (views values)) (sym two) (subst (λ (j : ℕ). AreArguments S j m (views values)) (sym one) typed)
+          subst (λ (l : ℕ). AreArguments (method_of S n.server l) (views values)) (sym two) (subst (λ (j : ℕ). AreArguments (method_of S j m) (views values)) (sym one) typed)
 
     answered_is : (a : Answered) (r : Result Received ℤ) → Answers IsUnscripted S i a r → IsLawful S i code r → Line a r
     answered_is a (Err status) is lawful = subst (λ (x : Answered). Line x (Err status)) (sym is) (not_zero status _ _ lawful)
@@ -76,7 +77,7 @@ module _ (S : List Decl) (i k : ℕ) (ms : Option Methods) where
     seen_is a (Ok (left m)) is lawful = subst (λ (x : Answered). IsSeenBy S ms x.saw) (sym is) tt
     seen_is a (Ok (called m saw)) is lawful =
         subst (λ (x : Answered). IsSeenBy S ms x.saw) (sym is.2.4)
-        (typed_by m lawful.0 is.0 (subst (λ (vs : Items). AreArguments S i m vs) (sym is.1) lawful.1) ms of)
+        (typed_by m lawful.0 is.0 (subst (λ (vs : Items). AreArguments (method_of S i m) vs) (sym is.1) lawful.1) ms of)
 
   -- the line of what is got is the one of what the trace's line says
   pub got_line : (t : Traced) (a : Answered) → Replays S i t (Got a) → IsLawfulRequest S i t → ((code : ℕ) (b : List ℕ) → t ≡ request code b → AreOfCode S i code ms)

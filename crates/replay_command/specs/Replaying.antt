@@ -11,6 +11,7 @@ use Rattle.run_command.specs.LineText.{called_text, values_text}
 use Rattle.tool_frame.specs.Answer.{◌>>=◌, Answer, Found, line, negative}
 use Rattle.tool_frame.specs.declared.verdict.Verdict.TheVariants.{Done}
 use Rattle.wire_model.specs.Calls.{arguments}
+use Rattle.wire_model.specs.MethodOf.{method_of}
 use Rattle.wire_model.specs.Receiver.{Received, left, called, stub}
 use Rattle.wire_model.specs.Typed.{types_of}
 use Rattle.aidl_outside.specs.Files.{Files}
@@ -33,7 +34,7 @@ called_line k saw = line (codes "{" ++ called_text k saw)
 abbrev pub received_line : List Decl → ℕ → ℕ → Result Received ℤ → List ℕ
 received_line S i k (Err status) = transport_line k status
 received_line S i k (Ok (left m)) = called_line k (codes "null")
-received_line S i k (Ok (called m saw)) = called_line k (values_text S (types_of (arguments S i m)) saw)
+received_line S i k (Ok (called m saw)) = called_line k (values_text S (types_of (arguments (method_of S i m))) saw)
 
 -- by what a line of the trace says; its bytes are read strictly
 abbrev pub replayed_line : List Decl → ℕ → ℕ → Traced → List ℕ

@@ -17,7 +17,7 @@ use Rattle.call_runner.specs.declared.line.LineOut.TheVariants as out
 use Rattle.call_runner.specs.declared.line.LineRun.{LineRun}
 use Rattle.call_runner.specs.declared.line.Methods.{Methods}
 use Rattle.call_runner.specs.Runs.{AreNamed, IsTyped, LineRuns, NamesOf, line_data, projected}
-use Rattle.call_scripts.specs.Calls.{CallData, TargetData}
+use Rattle.call_scripts.specs.Calls.{CallData, TargetData, callee}
 use Rattle.call_scripts.specs.Script.{script}
 use Rattle.run_command.specs.CallLines.{lines_of}
 use Rattle.run_command.specs.LineText.{line_text}
@@ -55,7 +55,7 @@ module _ (p : Profile) (A B : List Decl) where
 
   same_entries : (c : CallData) (b r : List ℕ) → AreFaithful (entries p A B c b r) → entries p A B c b r ≡ line_carried p A B (Ok c)
   same_entries c b r same =
-      let first : b ≡ request A c.interface c.method c.args =
+      let first : b ≡ request (callee A c) c.args =
       All-head (λ (e : Carried). e.delivered ≡ e.sent) (request_entry A c b) (reply_entries (call_code A c) (reply_sent p A B c b) r) same in
       let later : AreFaithful (reply_entries (call_code A c) (reply_sent p A B c b) r) =
       All-tail (λ (e : Carried). e.delivered ≡ e.sent) (request_entry A c b) (reply_entries (call_code A c) (reply_sent p A B c b) r) same in

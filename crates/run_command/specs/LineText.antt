@@ -16,6 +16,7 @@ use Rattle.json_writing.specs.ValueText.{value_text}
 use Rattle.tool_frame.specs.Answer.{line}
 use Rattle.wire_model.specs.Calls as calls
 use Rattle.wire_model.specs.Calls.{AnswerData, returned, exception}
+use Rattle.wire_model.specs.MethodOf.{method_of}
 use Rattle.wire_model.specs.Requests.{service_specific}
 use Rattle.wire_model.specs.Typed.{types_of}
 
@@ -38,7 +39,7 @@ values_text S [] vs = codes "[]"
 -- the types of what the handler of SERVER's method sees
 abbrev pub seen_types : List Decl → Option Methods → List AidlType
 seen_types B None = []
-seen_types B (Some m) = types_of (calls.arguments B m.server m.called)
+seen_types B (Some m) = types_of (calls.arguments (method_of B m.server m.called))
 
 -- SAW: null where the handler wasn't called
 abbrev pub saw_text : List Decl → Option Methods → Option Items → List ℕ
@@ -48,12 +49,12 @@ saw_text B ms (Some saw) = values_text B (seen_types B ms) saw
 -- the types of the outs of CLIENT's method
 abbrev pub out_types : List Decl → Option Methods → List AidlType
 out_types A None = []
-out_types A (Some m) = calls.out_types A m.interface m.method
+out_types A (Some m) = calls.out_types (method_of A m.interface m.method)
 
 -- the type of its result; None is `void`
 abbrev pub result_type : List Decl → Option Methods → Option AidlType
 result_type A None = None
-result_type A (Some m) = calls.result_type A m.interface m.method
+result_type A (Some m) = calls.result_type (method_of A m.interface m.method)
 
 -- the result by its type, or null for a void method
 abbrev pub result_text : List Decl → Option AidlType → Option Data → List ℕ

@@ -9,7 +9,7 @@ use Rattle.call_scripts.specs.Refusal.{Judged}
 use Rattle.call_runner.specs.Lines.{entries, reply_sent}
 use Rattle.call_runner.specs.Runs.{projected}
 use Rattle.call_runner.specs.declared.line.Methods.{Methods}
-use Rattle.call_scripts.specs.Calls.{CallData, TargetData}
+use Rattle.call_scripts.specs.Calls.{CallData, TargetData, callee}
 use Rattle.call_scripts.specs.Script.{script}
 use Rattle.run_command.specs.LineText.{line_text}
 use Rattle.run_command.specs.Trace.{trace_text}
@@ -47,7 +47,7 @@ call_carried p A B c b = entries p A B c b (reply_bytes (reply_sent p A B c b))
 -- what is carried of a line: nothing of one that is refused
 abbrev pub line_carried : Profile → List Decl → List Decl → Judged CallData → List Carried
 line_carried p A B (Err why) = []
-line_carried p A B (Ok c) = call_carried p A B c (request A c.interface c.method c.args)
+line_carried p A B (Ok c) = call_carried p A B c (request (callee A c) c.args)
 
 -- what is put of a line: the trace lines of what is carried, where they are asked for, and then its own
 abbrev pub projected_piece : Profile → List Decl → List Decl → Bool → ℕ → Judged CallData → List ℕ

@@ -6,6 +6,7 @@ ghost use Rattle.aidl_values.specs.HasType.{HasType};
 ghost use Rattle.aidl_values.specs.View.{view};
 ghost use Rattle.json_writing.specs.ValueText.{value_text};
 ghost use Rattle.wire_model.specs.Calls.{method_at};
+ghost use Rattle.wire_model.specs.MethodOf.{method_of};
 
 use aidl_schema::{AidlType, Method, Schema};
 use aidl_values::Value;
@@ -52,7 +53,7 @@ impl<'a> SidePrinter<'a> {
     // The method with a number of an interface.
     pub(crate) fn method(&self, interface: u32, method: u32) -> &'a Method
         requires { method < length (methods_at self.now interface) }
-        ensures { method_at self.now interface method ≡ Some result.now }
+        ensures { method_at (method_of self.now interface method) ≡ Some result.now }
     {
         method_of(self.schema, interface, method)
     }

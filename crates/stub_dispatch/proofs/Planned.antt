@@ -13,6 +13,7 @@ use Rattle.marshal_plans.specs.declared.plans.Plans.{Plans}
 use Rattle.marshal_plans.specs.Places.{IsMethod, StandsForResult}
 use Rattle.marshal_plans.specs.Standing.{StandFor}
 use Rattle.wire_model.specs.Calls.{arguments, arguments_of, method_at, result_of, result_type}
+use Rattle.wire_model.specs.MethodOf.{method_of}
 use Rattle.stub_dispatch.specs.Planned.{ArePlansOf}
 use Rattle.stub_dispatch.specs.steps.Arguments.{ArePlanned, IsPlanned, IsResultOf, IsResultPlanned}
 
@@ -22,10 +23,10 @@ there_at (x ∷ xs) zero lt = (x, refl)
 there_at (x ∷ xs) (suc k) lt = there_at xs k (omega arith)
 
 -- a method that is there
-method_there : (S : List Decl) (i m : ℕ) → m < length (methods_at S i) → (w : Method) × IsMethod S i m w × (method_at S i m ≡ Some w)
+method_there : (S : List Decl) (i m : ℕ) → m < length (methods_at S i) → (w : Method) × IsMethod S i m w × (method_at (method_of S i m) ≡ Some w)
 method_there S i m lt = by (slice_get S i) refl
   where
-    by : (o : Option Decl) → slice_get S i ≡ o → (w : Method) × IsMethod S i m w × (method_at S i m ≡ Some w)
+    by : (o : Option Decl) → slice_get S i ≡ o → (w : Method) × IsMethod S i m w × (method_at (method_of S i m) ≡ Some w)
     by None e = absurd (let l : m < length (methods_of_decl None) = subst (λ o. m < length (methods_of_decl o)) e lt in omega arith)
     by (Some d) e =
         let l : m < length (methods_of d.kind) = subst (λ o. m < length (methods_of_decl o)) e lt in
@@ -57,14 +58,14 @@ module _ (S : List Decl) (extra types : List AidlType) (plans : Plans) (stand : 
   result_planned : IsResultPlanned plans S i m w.result
   result_planned = record { there = (S, extra, types, stand, w, is); stands = λ id h. result_is w.result id (h S extra types stand w is) }
 
-pub planned_arguments : (S : List Decl) (plans : Plans) → ArePlansOf plans S → AllHold S → (i m : ℕ) → m < length (methods_at S i) → ArePlanned plans S i m 0 (arguments S i m)
+pub planned_arguments : (S : List Decl) (plans : Plans) → ArePlansOf plans S → AllHold S → (i m : ℕ) → m < length (methods_at S i) → ArePlanned plans S i m 0 (arguments (method_of S i m))
 planned_arguments S plans stand all i m lt =
     let found = method_there S i m lt in
     let w = found.0 in
     let few = (all i found.1.0 found.1.1).few_arguments m w found.1.2 in
     subst (λ o. ArePlanned plans S i m 0 (arguments_of o)) (sym found.2) (each S stand.0 stand.1 plans stand.2 i m w found.1 few 0 w.args (λ j a e. let z : j ≡ 0 + j = omega arith in subst (λ q. slice_get w.args q ≡ Some a) z e))
 
-pub planned_result : (S : List Decl) (plans : Plans) → ArePlansOf plans S → (i m : ℕ) → m < length (methods_at S i) → IsResultPlanned plans S i m (result_type S i m)
+pub planned_result : (S : List Decl) (plans : Plans) → ArePlansOf plans S → (i m : ℕ) → m < length (methods_at S i) → IsResultPlanned plans S i m (result_type (method_of S i m))
 planned_result S plans stand i m lt =
     let found = method_there S i m lt in
     subst (λ o. IsResultPlanned plans S i m (result_of o)) (sym found.2) (result_planned S stand.0 stand.1 plans stand.2 i m found.0 found.1)

@@ -1,5 +1,4 @@
 pub mod Planned
-pub mod Callees
 pub mod steps
 pub mod Got
 pub mod Receipts

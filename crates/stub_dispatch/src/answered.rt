@@ -27,12 +27,11 @@ pub fn answer_call<F: Fn(u32, &[Value]) -> Result<Answer, OutOfMemory>>(
     handler: &F,
     saw: Row<Value>,
 ) -> Result<Answered, OutOfMemory>
-    requires typed { AreArguments callee.now.decls callee.now.interface callee.now.method
-        (views saw) }
-    requires callable { MayBeCalled callee.now.decls callee.now.interface (F.pre handler.now) }
-    requires fits { AnswersFit callee.now.decls callee.now.interface (F.post handler.now) }
-    ensures { IfOk result (λ answered. AnswersCall
-        (F.post handler.now) callee.now.decls callee.now.interface answered callee.now.method saw) }
+    requires typed { AreArguments callee.now (views saw) }
+    requires callable { MayBeCalled callee.now.declarations callee.now.interface
+        (F.pre handler.now) }
+    requires fits { AnswersFit callee.now.declarations callee.now.interface (F.post handler.now) }
+    ensures { IfOk result (λ answered. AnswersCall (F.post handler.now) callee.now answered saw) }
 {
     let method = callee.method();
     let answer = handler(method, saw.as_slice())?;

@@ -5,6 +5,7 @@ ghost use Rattle.aidl_schema.specs.Methods.{is_in_way};
 ghost use Rattle.stub_dispatch.specs.Planned.{ArePlansOf};
 ghost use Rattle.stub_dispatch.specs.steps.Arguments.{ArePlanned, IsResultOf, IsResultPlanned};
 ghost use Rattle.wire_model.specs.Calls.{arguments, is_out, method_at, result_type};
+ghost use Rattle.wire_model.specs.MethodOf.{method_of};
 
 use aidl_schema::{Direction, Method, Schema, law_valid, methods_at};
 use marshal_plans::{PlanId, Plans};
@@ -12,7 +13,7 @@ use marshal_plans::{PlanId, Plans};
 /// The method with a number of an interface.
 pub fn method_of(schema: &Schema, interface: u32, method: u32) -> &Method
     requires { method < length (methods_at schema.now.decls interface) }
-    ensures { method_at schema.now.decls interface method ≡ Some result.now }
+    ensures { method_at (method_of schema.now.decls interface method) ≡ Some result.now }
 {
     &methods_at(schema, interface)[method as usize]
 }
@@ -22,9 +23,9 @@ pub fn law_planned(schema: &Schema, plans: &Plans, interface: u32, method: u32)
     requires plans { ArePlansOf plans.now schema.now.decls }
     requires there { method < length (methods_at schema.now.decls interface) }
     ensures arguments { ArePlanned plans.now schema.now.decls interface method 0
-        (arguments schema.now.decls interface method) }
+        (arguments (method_of schema.now.decls interface method)) }
     ensures result { IsResultPlanned plans.now schema.now.decls interface method
-        (result_type schema.now.decls interface method) }
+        (result_type (method_of schema.now.decls interface method)) }
 {
     law_valid(schema);
 }
@@ -33,8 +34,8 @@ pub fn law_planned(schema: &Schema, plans: &Plans, interface: u32, method: u32)
 pub fn result_id(schema: &Schema, plans: &Plans, interface: u32, method: u32) -> Option<PlanId>
     requires plans { ArePlansOf plans.now schema.now.decls }
     requires there { method < length (methods_at schema.now.decls interface) }
-    ensures { IsResultOf plans.now schema.now.decls
-        (result_type schema.now.decls interface method) result }
+    ensures { IsResultOf plans.now schema.now.decls (result_type
+        (method_of schema.now.decls interface method)) result }
 {
     law_planned(schema, plans, interface, method);
     plans.result(interface, method)

@@ -1,9 +1,9 @@
 //! A callee: a method of a side, with the plans of its arguments and its result.
 ghost use Rattle.std.specs.Prelude.{◌≡◌, ◌<◌, Some, length, option_map};
 ghost use Rattle.aidl_schema.specs.Find.{methods_at};
-ghost use Rattle.stub_dispatch.specs.Callees.{MethodOf};
 ghost use Rattle.stub_dispatch.specs.steps.Planned.{TypeOf};
 ghost use Rattle.wire_model.specs.Calls.{arguments, method_at, result_type};
+ghost use Rattle.wire_model.specs.MethodOf.{method_of};
 
 use crate::call::{law_planned, method_of, result_id};
 use crate::planned_arguments::PlannedArguments;
@@ -26,18 +26,14 @@ impl<'a> Model for Callee<'a> {
     ghost use Rattle.std.specs.Prelude.{◌<◌, length};
     ghost use Rattle.aidl_schema.specs.Find.{methods_at};
     ghost use Rattle.aidl_schema.specs.contracts.schema.Decl as decl;
-    ghost use Rattle.stub_dispatch.specs.Callees.{MethodOf, method_code};
     ghost use Rattle.stub_dispatch.specs.Planned.{ArePlansOf};
+    ghost use Rattle.wire_model.specs.MethodOf.{MethodOf, method_code, method_of};
 
     ghost Value = { MethodOf };
 
     ghost coded = { method_code decl.the_row.coded };
 
-    ghost view = { λ callee. record {
-      decls = callee.schema.now.decls;
-      interface = callee.interface;
-      method = callee.method;
-    } };
+    ghost view = { λ callee. method_of callee.schema.now.decls callee.interface callee.method };
 
     ghost invariant = { λ callee. record {
       plans : ArePlansOf callee.plans.now callee.schema.now.decls;
@@ -49,7 +45,7 @@ impl<'a> Callee<'a> {
     /// The method at a position of an interface.
     pub fn new(side: &Side<'a>, interface: u32, method: u32) -> Callee<'a>
         requires { method < length (methods_at side.now interface) }
-        ensures { result ≡ record { decls = side.now; interface = interface; method = method } }
+        ensures { result ≡ method_of side.now interface method }
     {
         Callee {
             schema: side.schema(),
@@ -61,7 +57,7 @@ impl<'a> Callee<'a> {
 
     /// Its schema.
     pub fn schema(&self) -> &'a Schema
-        ensures { result.now.decls ≡ self.now.decls }
+        ensures { result.now.decls ≡ self.now.declarations }
     {
         self.schema
     }
@@ -76,14 +72,15 @@ impl<'a> Callee<'a> {
     /// Its position in its interface.
     pub fn method(&self) -> u32
         ensures is { result ≡ self.now.method }
-        ensures there { self.now.method < length (methods_at self.now.decls self.now.interface) }
+        ensures there { self.now.method < length (methods_at self.now.declarations
+            self.now.interface) }
     {
         self.method
     }
 
     /// How it is declared.
     pub fn declared(&self) -> &'a Method
-        ensures { method_at self.now.decls self.now.interface self.now.method ≡ Some result.now }
+        ensures { method_at self.now ≡ Some result.now }
     {
         method_of(self.schema, self.interface, self.method)
     }
@@ -91,8 +88,8 @@ impl<'a> Callee<'a> {
     /// Its arguments, with their plans.
     pub(crate) fn arguments(&self) -> PlannedArguments<'a>
         ensures { result ≡ record {
-          decls = self.now.decls;
-          args = arguments self.now.decls self.now.interface self.now.method;
+          decls = self.now.declarations;
+          args = arguments self.now;
         } }
     {
         law_planned(self.schema, self.plans, self.interface, self.method);
@@ -105,9 +102,9 @@ impl<'a> Callee<'a> {
     /// The type of its result, with the plan of it, None of a void method.
     pub(crate) fn result(&self) -> Option<PlannedType<'a>>
         ensures { result ≡ option_map (λ ty. let of : TypeOf = record {
-          decls = self.now.decls;
+          decls = self.now.declarations;
           ty = ty;
-        } in of) (result_type self.now.decls self.now.interface self.now.method) }
+        } in of) (result_type self.now) }
     {
         let ty = method_of(self.schema, self.interface, self.method).result;
         let id = result_id(self.schema, self.plans, self.interface, self.method);

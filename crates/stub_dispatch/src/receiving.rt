@@ -57,10 +57,10 @@ pub fn receive_call(
     callee: &Callee<'_>,
     bytes: &[u8],
 ) -> Result<Receipt, OutOfMemory>
-    ensures { IfOk result (λ receipt. (code : ℕ)
-        → position_of_code (methods_at callee.now.decls callee.now.interface) code
-        ≡ Some callee.now.method
-        → receipt_of receipt ≡ stub profile callee.now.decls callee.now.interface code bytes.now) }
+    ensures { IfOk result (λ receipt. (code : ℕ) → position_of_code
+        (methods_at callee.now.declarations callee.now.interface) code ≡ Some callee.now.method
+        → receipt_of receipt ≡ stub profile callee.now.declarations callee.now.interface code
+        bytes.now) }
 {
     receive_request(alloc, profile, callee, bytes)
 }
@@ -72,8 +72,8 @@ fn receive_request(
     callee: &Callee<'_>,
     bytes: &[u8],
 ) -> Result<Receipt, OutOfMemory>
-    ensures { IfOk result (λ receipt. receipt_of receipt
-        ≡ call_received profile callee.now.decls callee.now.interface callee.now.method bytes.now) }
+    ensures { IfOk result (λ receipt. receipt_of receipt ≡ call_received profile callee.now
+        bytes.now) }
 {
     let name = descriptor_of(alloc, callee.schema(), callee.interface())?;
     let mut from = CallReader::new(profile, bytes);
@@ -91,7 +91,7 @@ fn receive_arguments(
     from: &mut CallReader<'_>,
 ) -> Result<Receipt, OutOfMemory>
     ensures { IfOk result (λ receipt. receipt_of receipt ≡ arguments_received from.old.profile
-        callee.now.decls callee.now.interface callee.now.method from.old.bytes) }
+        callee.now from.old.bytes) }
 {
     let method = callee.method();
     let args = callee.arguments();

@@ -61,8 +61,7 @@ pub fn read_answer(
     bytes: &[u8],
 ) -> Result<Got, OutOfMemory>
     // An answer is what the client reads, and a failure has the status with which reading stops.
-    ensures { IfOk result (λ got. got_of got
-        ≡ client profile callee.now.decls callee.now.interface callee.now.method bytes.now) }
+    ensures { IfOk result (λ got. got_of got ≡ client profile callee.now bytes.now) }
 {
     match answer_in(alloc, profile, callee, bytes) {
         Ok(Answer::Returned { result, outs }) => Ok(Got::Returned { result, outs }),
@@ -92,8 +91,7 @@ fn answer_in(
     callee: &Callee<'_>,
     bytes: &[u8],
 ) -> Result<Answer, ReadFault>
-    ensures { IsAnswer result
-        (client profile callee.now.decls callee.now.interface callee.now.method bytes.now) }
+    ensures { IsAnswer result (client profile callee.now bytes.now) }
 {
     let mut from = CallReader::new(profile, bytes);
     let status = from.word()?;
@@ -113,10 +111,8 @@ fn status_from(
     status: i32,
     from: &mut CallReader<'_>,
 ) -> Result<Answer, ReadFault>
-    ensures { TakesIfMemory answer_of result (status_at from.old.profile callee.now.decls
-        (result_type callee.now.decls callee.now.interface callee.now.method)
-        (out_types callee.now.decls callee.now.interface callee.now.method) status
-        from.old.bytes) from.new.bytes }
+    ensures { TakesIfMemory answer_of result (status_at from.old.profile callee.now.declarations
+        (result_type callee.now) (out_types callee.now) status from.old.bytes) from.new.bytes }
 {
     if status == 0 {
         return returned_from(alloc, callee, from);
@@ -174,10 +170,8 @@ fn returned_from(
     callee: &Callee<'_>,
     from: &mut CallReader<'_>,
 ) -> Result<Answer, ReadFault>
-    ensures { TakesIfMemory answer_of result (returned_at from.old.profile callee.now.decls
-        (result_type callee.now.decls callee.now.interface callee.now.method)
-        (out_types callee.now.decls callee.now.interface callee.now.method) from.old.bytes)
-        from.new.bytes }
+    ensures { TakesIfMemory answer_of result (returned_at from.old.profile callee.now.declarations
+        (result_type callee.now) (out_types callee.now) from.old.bytes) from.new.bytes }
 {
     let result = result_from(alloc, callee, from)?;
     let mut outs = Vec::new(alloc);
@@ -192,9 +186,8 @@ fn result_from(
     callee: &Callee<'_>,
     from: &mut CallReader<'_>,
 ) -> Result<Option<Value>, ReadFault>
-    ensures taken { TakesIfMemory optional_view result (result_at from.old.profile callee.now.decls
-        (result_type callee.now.decls callee.now.interface callee.now.method) from.old.bytes)
-        from.new.bytes }
+    ensures taken { TakesIfMemory optional_view result (result_at from.old.profile
+        callee.now.declarations (result_type callee.now) from.old.bytes) from.new.bytes }
     ensures same { OnOk result (from.new.profile ≡ from.old.profile) }
 {
     match callee.result() {

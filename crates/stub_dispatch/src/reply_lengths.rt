@@ -15,10 +15,8 @@ use parcel_words::Wire;
 
 /// The number of bytes of a reply, or `most` where they are more: counting stops there.
 pub fn reply_length(callee: &Callee<'_>, answer: &Answer, most: usize) -> usize
-    requires { IsAnswer callee.now.decls callee.now.interface callee.now.method
-        (answer_of answer.now) }
-    ensures { result ≡ min (length (reply callee.now.decls callee.now.interface callee.now.method
-        (answer_of answer.now))) most }
+    requires { IsAnswer callee.now (answer_of answer.now) }
+    ensures { result ≡ min (length (reply callee.now (answer_of answer.now))) most }
 {
     match answer {
         Answer::Returned { result, outs } => returned_length(callee, result, outs.as_slice(), most),
@@ -38,12 +36,11 @@ pub fn returned_length(
     outs: &[Value],
     most: usize,
 ) -> usize
-    requires value { ResultFits callee.now.decls (result_type
-        callee.now.decls callee.now.interface callee.now.method) (optional_view value.now) }
-    requires outs { EachFits callee.now.decls
-        (out_types callee.now.decls callee.now.interface callee.now.method) (views outs.now) }
-    ensures { result ≡ min (length (reply callee.now.decls callee.now.interface callee.now.method
-        (returned (optional_view value.now) (views outs.now)))) most }
+    requires value { ResultFits callee.now.declarations (result_type callee.now)
+        (optional_view value.now) }
+    requires outs { EachFits callee.now.declarations (out_types callee.now) (views outs.now) }
+    ensures { result ≡ min (length (reply callee.now (returned (optional_view value.now)
+        (views outs.now)))) most }
 {
     let len = result_length(callee, value, most);
     let rest = outs_length(&callee.arguments(), outs, most - len);
@@ -52,10 +49,10 @@ pub fn returned_length(
 
 // The number of bytes of a result, or `most` where they are more; 0 of a void method.
 fn result_length(callee: &Callee<'_>, value: &Option<Value>, most: usize) -> usize
-    requires { ResultFits callee.now.decls (result_type
-        callee.now.decls callee.now.interface callee.now.method) (optional_view value.now) }
-    ensures { result ≡ min (length (spell_result callee.now.decls (result_type callee.now.decls
-        callee.now.interface callee.now.method) (optional_view value.now))) most }
+    requires { ResultFits callee.now.declarations (result_type callee.now)
+        (optional_view value.now) }
+    ensures { result ≡ min (length (spell_result callee.now.declarations (result_type callee.now)
+        (optional_view value.now))) most }
 {
     match value {
         Some(value) => match callee.result() {

@@ -12,10 +12,8 @@ use aidl_values::Value;
 
 /// The number of bytes of a request, or `most` where they are more: counting stops there.
 pub fn request_length(callee: &Callee<'_>, args: &[Value], most: usize) -> usize
-    requires { ArgumentsFit callee.now.decls
-        (arguments callee.now.decls callee.now.interface callee.now.method) (views args.now) }
-    ensures { result ≡ min (length (request callee.now.decls callee.now.interface callee.now.method
-        (views args.now))) most }
+    requires { ArgumentsFit callee.now.declarations (arguments callee.now) (views args.now) }
+    ensures { result ≡ min (length (request callee.now (views args.now))) most }
 {
     let parts = parts_length(&callee.arguments(), args, most);
     token_length(callee.schema(), callee.interface())

@@ -19,13 +19,12 @@ use std::alloc::Global;
 /// The bytes of the request of a call: the token of the interface, and the parts of the arguments in order. It refuses by `TooLarge`
 /// exactly a request of more than 1,048,576 bytes. The room for the bytes is taken once.
 pub fn request(alloc: Global, callee: &Callee<'_>, args: &[Value]) -> Result<Vec<u8>, WriteFault>
-    requires { ArgsFit callee.now.decls callee.now.interface callee.now.method (views args.now) }
+    requires { ArgsFit callee.now (views args.now) }
     // What is written is the request.
-    ensures sent { IfOk result (λ bytes. bytes.items
-        ≡ request callee.now.decls callee.now.interface callee.now.method (views args.now)) }
+    ensures sent { IfOk result (λ bytes. bytes.items ≡ request callee.now (views args.now)) }
     // Too large are requests of more than 1,048,576 bytes, and no others.
-    ensures too_large { IsErrOf result TooLarge ↔ 1048576 < length
-        (request callee.now.decls callee.now.interface callee.now.method (views args.now)) }
+    ensures too_large { IsErrOf result TooLarge ↔ 1048576
+        < length (request callee.now (views args.now)) }
 {
     let most = LimitName::ParcelBytes.number() as usize;
     let length = request_length(callee, args, most + 1);

@@ -6,6 +6,7 @@ ghost use Rattle.parcel_words.specs.Written.{with_bytes};
 ghost use Rattle.stub_dispatch.specs.Sent.{sent_reply, unread};
 ghost use Rattle.stub_dispatch.specs.Exceptions.{spell_exception};
 ghost use Rattle.wire_model.specs.Calls.{answer_of, is_oneway, optional_view, out_types, outs_of, result_type, returned};
+ghost use Rattle.wire_model.specs.MethodOf.{method_of};
 ghost use Rattle.wire_model.specs.Requests.{AnswerFits, EachFits, ResultFits, reply, spell_each, spell_error, spell_result};
 
 use crate::call::comes_back;
@@ -25,10 +26,8 @@ pub fn answer_reply(
     callee: &Callee<'_>,
     answer: &Answer,
 ) -> Result<Option<Row<u8>>, OutOfMemory>
-    requires fits { AnswerFits callee.now.decls callee.now.interface callee.now.method
-        (answer_of answer.now) }
-    ensures { IfOk result (λ reply. reply ≡ sent_reply
-        callee.now.decls callee.now.interface callee.now.method (answer_of answer.now)) }
+    requires fits { AnswerFits callee.now (answer_of answer.now) }
+    ensures { IfOk result (λ reply. reply ≡ sent_reply callee.now (answer_of answer.now)) }
 {
     if is_oneway(callee.schema(), callee.interface(), callee.method()) {
         return Ok(None);
@@ -44,7 +43,8 @@ pub fn unread_reply(
     interface: u32,
     method: u32,
 ) -> Result<Option<Row<u8>>, OutOfMemory>
-    ensures { IfOk result (λ reply. reply ≡ sent_reply schema.now.decls interface method unread) }
+    ensures { IfOk result (λ reply. reply ≡ sent_reply (method_of schema.now.decls interface method)
+        unread) }
 {
     if is_oneway(schema, interface, method) {
         return Ok(None);
@@ -65,7 +65,7 @@ pub fn unread_bytes(alloc: Global) -> Result<Vec<u8>, OutOfMemory>
 
 // Whether a method is oneway.
 fn is_oneway(schema: &Schema, interface: u32, method: u32) -> bool
-    ensures { result ≡ is_oneway schema.now.decls interface method }
+    ensures { result ≡ is_oneway (method_of schema.now.decls interface method) }
 {
     match methods_at(schema, interface).get(method as usize) {
         Some(method) => method.oneway,
@@ -79,10 +79,8 @@ pub fn answer_bytes(
     callee: &Callee<'_>,
     answer: &Answer,
 ) -> Result<Vec<u8>, OutOfMemory>
-    requires fits { AnswerFits callee.now.decls callee.now.interface callee.now.method
-        (answer_of answer.now) }
-    ensures { IfOk result (λ bytes. bytes.items
-        ≡ reply callee.now.decls callee.now.interface callee.now.method (answer_of answer.now)) }
+    requires fits { AnswerFits callee.now (answer_of answer.now) }
+    ensures { IfOk result (λ bytes. bytes.items ≡ reply callee.now (answer_of answer.now)) }
 {
     match answer {
         Answer::Returned { result, outs } => returned_bytes(alloc, callee, result, outs.as_slice()),
@@ -102,14 +100,13 @@ fn returned_bytes(
     value: &Option<Value>,
     outs: &[Value],
 ) -> Result<Vec<u8>, OutOfMemory>
-    requires fits { ResultFits callee.now.decls (result_type
-        callee.now.decls callee.now.interface callee.now.method) (optional_view value.now) }
-    requires each { EachFits callee.now.decls
-        (out_types callee.now.decls callee.now.interface callee.now.method) (views outs.now) }
-    requires small { length (reply callee.now.decls callee.now.interface callee.now.method
-        (returned (optional_view value.now) (views outs.now))) ≤ 1048576 }
-    ensures { IfOk result (λ bytes. bytes.items ≡ reply callee.now.decls callee.now.interface
-        callee.now.method (returned (optional_view value.now) (views outs.now))) }
+    requires fits { ResultFits callee.now.declarations (result_type callee.now)
+        (optional_view value.now) }
+    requires each { EachFits callee.now.declarations (out_types callee.now) (views outs.now) }
+    requires small { length (reply callee.now (returned (optional_view value.now) (views outs.now)))
+        ≤ 1048576 }
+    ensures { IfOk result (λ bytes. bytes.items ≡ reply callee.now
+        (returned (optional_view value.now) (views outs.now))) }
 {
     let length = returned_length(callee, value, outs, usize::MAX);
     let mut to = WordWriter::with_room(alloc, length)?;
@@ -121,14 +118,14 @@ fn returned_bytes(
 
 // Appends a result, where there is one.
 fn put_result(callee: &Callee<'_>, value: &Option<Value>, to: &mut WordWriter)
-    requires fits { ResultFits callee.now.decls (result_type
-        callee.now.decls callee.now.interface callee.now.method) (optional_view value.now) }
-    requires small { length (spell_result callee.now.decls (result_type callee.now.decls
-        callee.now.interface callee.now.method) (optional_view value.now)) < 2 ^ 31 }
-    requires room { length (spell_result callee.now.decls (result_type callee.now.decls
-        callee.now.interface callee.now.method) (optional_view value.now)) ≤ to.old.room }
-    ensures { to.new ≡ with_bytes to.old (spell_result callee.now.decls (result_type
-        callee.now.decls callee.now.interface callee.now.method) (optional_view value.now)) }
+    requires fits { ResultFits callee.now.declarations (result_type callee.now)
+        (optional_view value.now) }
+    requires small { length (spell_result callee.now.declarations (result_type callee.now)
+        (optional_view value.now)) < 2 ^ 31 }
+    requires room { length (spell_result callee.now.declarations (result_type callee.now)
+        (optional_view value.now)) ≤ to.old.room }
+    ensures { to.new ≡ with_bytes to.old (spell_result callee.now.declarations
+        (result_type callee.now) (optional_view value.now)) }
 {
     match value {
         Some(value) => match callee.result() {

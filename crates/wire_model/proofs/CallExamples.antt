@@ -18,6 +18,7 @@ use Rattle.aidl_schema.specs.declared.schema.Method.{Method}
 use Rattle.aidl_values.specs.Data.{Data, number, seq, rec, Items, none, item}
 use Rattle.aidl_values.specs.Default.{const_value, zero_within}
 use Rattle.wire_model.specs.Calls.{AnswerData, returned, exception}
+use Rattle.wire_model.specs.MethodOf.{method_of}
 use Rattle.wire_model.specs.Outcome.{Done, oneway, done, seen_call, outcome}
 use Rattle.wire_model.specs.ReadOf.{read_of, raw_items_at, elements_at, array_at, marker_at, body_at, body_value_at, record_at, tag_at, tagged_at, union_at}
 use Rattle.wire_model.specs.Receiver.{Received, left, called, header_at, length_at, array_opening_at, stub, returned_at, exception_at, client}
@@ -31,11 +32,11 @@ received_by S code b = stub Strict S 0 code b
 
 got_by : List Decl → List ℕ → Result AnswerData ℤ
 unfolding client returned_at exception_at read_of word_as count_at text_of block_at text_at present_text_at raw_at raw_items_at elements_at array_at marker_at body_at body_value_at record_at tag_at tagged_at union_at zero_within utf16_chars chars encode
-got_by S b = client Strict S 0 0 b
+got_by S b = client Strict (method_of S 0 0) b
 
 comes_of : List Decl → ℕ → List Decl → Items → AnswerData → Result Done ℤ
 unfolding outcome seen_call zero_within
-comes_of A m B args answer = outcome A 0 m B args answer
+comes_of A m B args answer = outcome (method_of A 0 m) B args answer
 
 argument : List ℕ → Direction → AidlType → Arg
 argument name way t = record { name = record { 0 = name }; way = way; ty = t }
@@ -72,9 +73,9 @@ three : AnswerData
 three = returned (Some (number (pos 3))) none
 
 -- the newer client at the older server
-put_across_versions : (request after 0 0 sent ≡ its_token ++ hex (codes "01000000 14000000 07000000 02000000 68006900 00000000"))
-    × (received_by before 1 (request after 0 0 sent) ≡ Ok (called 0 seen))
-    × (reply before 0 0 three ≡ hex (codes "00000000 03000000"))
+put_across_versions : (request (method_of after 0 0) sent ≡ its_token ++ hex (codes "01000000 14000000 07000000 02000000 68006900 00000000"))
+    × (received_by before 1 (request (method_of after 0 0) sent) ≡ Ok (called 0 seen))
+    × (reply (method_of before 0 0) three ≡ hex (codes "00000000 03000000"))
     × (got_by after (hex (codes "00000000 03000000")) ≡ Ok three)
     × (comes_of after 0 before sent three ≡ Ok (done seen (Ok three)))
 unfolding received_by got_by comes_of before after its_token sent seen three hex record_of
@@ -84,7 +85,7 @@ put_across_versions = (refl, refl, refl, refl, refl)
 calls_both_ways : (comes_of before 0 after seen (returned (Some (number (pos 0))) none)
     ≡ Ok (done (item (rec (item (number (pos 7)) (item (const_value (Const.Text (codes "x"))) none))) none) (Ok (returned (Some (number (pos 0))) none))))
     × (comes_of after 1 before (item (number (pos 1)) none) three ≡ Err unknown_transaction)
-    × (received_by before 2 (request after 0 1 (item (number (pos 1)) none)) ≡ Err unknown_transaction)
+    × (received_by before 2 (request (method_of after 0 1) (item (number (pos 1)) none)) ≡ Err unknown_transaction)
     × (comes_of after 1 after (item (number (pos 1)) none) three ≡ Ok (oneway (item (number (pos 1)) none)))
 unfolding received_by comes_of before after seen three
 calls_both_ways = (refl, refl, refl, refl)
@@ -114,7 +115,7 @@ unfolding received_by got_by before after its_token seen hex
 tampered_bytes = (refl, refl, refl, refl, refl, refl, refl, refl, refl, refl, refl, refl)
 
 -- exceptions: of a service, with its own error; a message that is null, a stack trace
-exceptions : (reply before 0 0 (exception (negsuc 7) (codes "x") (pos 5)) ≡ hex (codes "f8ffffff 01000000 78000000 00000000 05000000"))
+exceptions : (reply (method_of before 0 0) (exception (negsuc 7) (codes "x") (pos 5)) ≡ hex (codes "f8ffffff 01000000 78000000 00000000 05000000"))
     × (got_by after (hex (codes "f8ffffff 01000000 78000000 00000000 05000000")) ≡ Ok (exception (negsuc 7) (codes "x") (pos 5)))
     × (got_by after (hex (codes "fbffffff 01000000 78000000 00000000")) ≡ Ok (exception (negsuc 4) (codes "x") (pos 0)))
     × (got_by after (hex (codes "fbffffff ffffffff 00000000")) ≡ Err unexpected_null)
@@ -145,14 +146,14 @@ unfolding numbers q_of
 filled = returned (Some (number (pos 2))) (item (seq (numbers (pos 1 ∷ pos 2 ∷ []))) (item (q_of (pos 10)) none))
 
 -- an `out` array is sent as its length and starts with so many defaults; it may come back with another length
-out_and_inout : (request filling 0 0 (item (number (pos 3)) (item (q_of (pos 9)) none)) ≡ io_token ++ hex (codes "03000000 01000000 08000000 09000000"))
+out_and_inout : (request (method_of filling 0 0) (item (number (pos 3)) (item (q_of (pos 9)) none)) ≡ io_token ++ hex (codes "03000000 01000000 08000000 09000000"))
     × (received_by filling 1 (io_token ++ hex (codes "03000000 01000000 08000000 09000000"))
     ≡ Ok (called 0 (item (seq (numbers (pos 0 ∷ pos 0 ∷ pos 0 ∷ []))) (item (q_of (pos 9)) none))))
     × (received_by filling 1 (io_token ++ hex (codes "ffffffff 01000000 08000000 09000000")) ≡ Err unexpected_null)
     × (received_by filling 1 (io_token ++ hex (codes "feffffff 01000000 08000000 09000000")) ≡ Err bad_value)
     × (received_by filling 1 (io_token ++ hex (codes "01000100 01000000 08000000 09000000")) ≡ Err bad_value)
     × (received_by filling 1 (io_token ++ hex (codes "030000")) ≡ Err not_enough)
-    × (reply filling 0 0 filled ≡ hex (codes "00000000 02000000 02000000 01020000 01000000 08000000 0a000000"))
+    × (reply (method_of filling 0 0) filled ≡ hex (codes "00000000 02000000 02000000 01020000 01000000 08000000 0a000000"))
     × (got_by filling (hex (codes "00000000 02000000 02000000 01020000 01000000 08000000 0a000000")) ≡ Ok filled)
 unfolding received_by got_by filling io_token filled hex numbers q_of
 out_and_inout = (refl, refl, refl, refl, refl, refl, refl, refl)

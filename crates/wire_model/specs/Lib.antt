@@ -1,6 +1,7 @@
 pub mod Calls
 pub mod Dots
 pub mod MetaStub
+pub mod MethodOf
 pub mod Outcome
 pub mod ReadOf
 pub mod Reads

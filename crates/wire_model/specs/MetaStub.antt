@@ -7,6 +7,7 @@ use Rattle.aidl_base.specs.declared.profile.Profile.TheVariants.{Strict}
 use Rattle.aidl_base.specs.Words.{word}
 use Rattle.aidl_schema.specs.declared.schema.Decl.{Decl}
 use Rattle.wire_model.specs.Calls.{descriptor}
+use Rattle.wire_model.specs.MethodOf.{method_of}
 use Rattle.wire_model.specs.ReadOf.{◌>>=◌}
 use Rattle.wire_model.specs.Receiver.{Received, stub, token_at}
 use Rattle.wire_model.specs.Requests.{reply, unread}
@@ -30,7 +31,7 @@ told_of version hash code =
 -- left, that of `left`, which has the same bytes for every method that isn't oneway
 abbrev pub own_reply : List Decl → ℕ → List ℕ → List ℕ → List ℕ
 own_reply S i item [] = word (pos 0) ++ item
-own_reply S i item (x ∷ rest) = reply S i 0 unread
+own_reply S i item (x ∷ rest) = reply (method_of S i 0) unread
 
 -- what is received: the service's own reply is sent, and no handler is called; or what the stub receives
 pub data MetaReceived : Type 0 where

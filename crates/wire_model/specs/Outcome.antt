@@ -1,6 +1,6 @@
 -- *Outcome*: what comes of a call between two schemas of which one is a legal evolution of the other, without a
--- word of bytes (own). A is the client's declarations, i and m the interface and the method of the call, B the
--- server's declarations.
+-- word of bytes (own). a is the client's method, b the server's; A and B are the declarations of client and server, j
+-- is the number of the server's interface.
 use Rattle.std.specs.Prelude.{◌≡◌, ◌⊎◌, ℕ, ℤ, true, List, [], ◌∷◌, Option, Some, None, option_map, Result, Ok}
 use Rattle.std.specs.Prelude.{if◌then◌else◌}
 use Rattle.std.specs.List.{position}
@@ -16,6 +16,7 @@ use Rattle.aidl_schema.specs.Unbroken.{Has}
 use Rattle.aidl_values.specs.Data.{Data, Items, none, item}
 use Rattle.wire_model.specs.Calls.{AnswerData, returned, exception, descriptor, method_at, arguments, result_type}
 use Rattle.wire_model.specs.Calls.{out_types, is_oneway, is_out}
+use Rattle.wire_model.specs.MethodOf.{MethodOf, method_of}
 use Rattle.wire_model.specs.ReadOf.{◌>>=◌}
 use Rattle.wire_model.specs.Receiver.{Received, called, opening, opened_arguments, or_status}
 use Rattle.wire_model.specs.Requests.{sent_length}
@@ -40,10 +41,10 @@ abbrev pub method_like : Option Method → List Method → Option ℕ
 method_like None ws = None
 method_like (Some v) ws = position (λ w. same_method v w) ws
 
--- the call is one of method n of the server's interface j: these have the names of the client's
-abbrev pub Reaches : List Decl → ℕ → ℕ → List Decl → ℕ → ℕ → Type 0
-Reaches A i m B j n = (declared_as B (descriptor A i) ≡ Some j)
-    × (method_like (method_at A i m) (methods_at B j) ≡ Some n)
+-- a call of the client's method a is one of the server's method b: interface and method have the same names
+abbrev pub Reaches : MethodOf → MethodOf → Type 0
+Reaches a b = (declared_as b.declarations (descriptor a.declarations a.interface) ≡ Some b.interface)
+    × (method_like (method_at a) (methods_at b.declarations b.interface) ≡ Some b.method)
 
 -- what the handler sees of an argument: the view of an `in` or `inout` one, the opening of an `out` one
 abbrev pub view_argument : List Decl → Arg → List Decl → Arg → Data → Option Data
@@ -57,18 +58,18 @@ view_arguments A (a ∷ xs) B [] vs = Some none
 view_arguments A [] B ys vs = Some none
 
 -- what the interface j of the server receives: the position of its method, and what the handler sees
-unfoldable pub seen_call : List Decl → ℕ → ℕ → List Decl → ℕ → Items → Result (ℕ × Items) ℤ
-seen_call A i m B j args = do
+unfoldable pub seen_call : MethodOf → List Decl → ℕ → Items → Result (ℕ × Items) ℤ
+seen_call a B j args = do
   -- UNKNOWN_TRANSACTION: B lacks the method
-  n ← or_status unknown_transaction (method_like (method_at A i m) (methods_at B j))
+  n ← or_status unknown_transaction (method_like (method_at a) (methods_at B j))
   -- BAD_VALUE: an argument has no view
-  saw ← or_status bad_value (view_arguments A (arguments A i m) B (arguments B j n) args)
+  saw ← or_status bad_value (view_arguments a.declarations (arguments a) B (arguments (method_of B j n)) args)
   Ok (n, saw)
 
 -- the same as what a stub receives
-abbrev pub received_call : List Decl → ℕ → ℕ → List Decl → ℕ → Items → Result Received ℤ
-received_call A i m B j args = do
-  seen ← seen_call A i m B j args
+abbrev pub received_call : MethodOf → List Decl → ℕ → Items → Result Received ℤ
+received_call a B j args = do
+  seen ← seen_call a B j args
   Ok (called seen.0 seen.1)
 
 -- the views of values of these types; None if one of them has no view
@@ -85,13 +86,13 @@ view_result B (Some t) A (Some u) None = Some None
 view_result B (Some t) A None r = Some None
 view_result B None A u r = Some None
 
--- what the client has of the answer of the server's method: the same exception, or the views from B to A of the
--- result and of the outs
-abbrev pub seen_answer : List Decl → ℕ → ℕ → List Decl → ℕ → ℕ → AnswerData → Result AnswerData ℤ
-seen_answer B j n A i m (exception code message error) = Ok (exception code message error)
-seen_answer B j n A i m (returned result outs) = do
-  r ← or_status bad_value (view_result B (result_type B j n) A (result_type A i m) result)
-  vs ← or_status bad_value (view_values B (out_types B j n) A (out_types A i m) outs)
+-- what the client has of the answer of the server's method: the same exception, or the client's views of the result
+-- and of the outs
+abbrev pub seen_answer : MethodOf → MethodOf → AnswerData → Result AnswerData ℤ
+seen_answer b a (exception code message error) = Ok (exception code message error)
+seen_answer b a (returned result outs) = do
+  r ← or_status bad_value (view_result b.declarations (result_type b) a.declarations (result_type a) result)
+  vs ← or_status bad_value (view_values b.declarations (out_types b) a.declarations (out_types a) outs)
   Ok (returned r vs)
 
 -- what the handler sees of a oneway call; and of another call that and what the client has, which may be a status
@@ -100,15 +101,17 @@ pub data Done : Type 0 where
   done : (saw : Items) → (client : Result AnswerData ℤ) → Done
 
 -- *Outcome*: the transport status, or what the two sides have; B's handler answers `answer`
-unfoldable pub outcome : List Decl → ℕ → ℕ → List Decl → Items → AnswerData → Result Done ℤ
-outcome A i m B args answer = do
-  j ← or_status unknown_transaction (declared_as B (descriptor A i))  -- UNKNOWN_TRANSACTION: B lacks the interface
-  seen ← seen_call A i m B j args
-  Ok (if is_oneway B j seen.0 then oneway seen.1 else done seen.1 (seen_answer B j seen.0 A i m answer))
+unfoldable pub outcome : MethodOf → List Decl → Items → AnswerData → Result Done ℤ
+outcome a B args answer = do
+  -- UNKNOWN_TRANSACTION: B lacks the interface
+  j ← or_status unknown_transaction (declared_as B (descriptor a.declarations a.interface))
+  seen ← seen_call a B j args
+  Ok (if is_oneway (method_of B j seen.0) then oneway seen.1
+      else done seen.1 (seen_answer (method_of B j seen.0) a answer))
 
 -- within one schema: the handler sees what was sent, with the openings of the `out` arguments, and the client has
 -- what was answered
-abbrev pub outcome_within : List Decl → ℕ → ℕ → Items → AnswerData → Done
-outcome_within S i m args answer =
-    if is_oneway S i m then oneway (opened_arguments S (arguments S i m) args)
-    else done (opened_arguments S (arguments S i m) args) (Ok answer)
+abbrev pub outcome_within : MethodOf → Items → AnswerData → Done
+outcome_within m args answer =
+    if is_oneway m then oneway (opened_arguments m.declarations (arguments m) args)
+    else done (opened_arguments m.declarations (arguments m) args) (Ok answer)

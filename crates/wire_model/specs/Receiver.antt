@@ -1,7 +1,7 @@
 -- *The receiver*: what a stub makes of a request, and a client of a reply (libbinder, Parcel.cpp:
 -- `enforceInterface`, Status.cpp: `readFromParcel`; the compiler's generated stub and proxy; the bound on lengths,
 -- and the order where nothing else says it, are own). p is the profile of reading, S a schema's declarations, i the
--- number of an interface, m the position of its method, b the bytes.
+-- number of an interface, b the bytes.
 use Rattle.std.specs.Prelude.{ℕ, zero, suc, ◌+◌, nat_le, ℤ, pos, Bool, false, ◌&&◌, ◌||◌, if◌then◌else◌}
 use Rattle.std.specs.Prelude.{List, [], ◌∷◌, Option, Some, None, Result, Ok, Err}
 use Rattle.std.specs.Ordering.{int_eq}
@@ -18,6 +18,7 @@ use Rattle.aidl_values.specs.Data.{Data, null, seq, Items, none, item, count}
 use Rattle.aidl_values.specs.Default.{zero_within}
 use Rattle.wire_model.specs.Calls.{AnswerData, returned, exception, descriptor, arguments, result_type, out_types}
 use Rattle.wire_model.specs.Calls.{is_out}
+use Rattle.wire_model.specs.MethodOf.{MethodOf, method_of}
 use Rattle.wire_model.specs.ReadOf.{Read, ◌>>=◌, read_of}
 use Rattle.wire_model.specs.Requests.{sent_length}
 use Rattle.wire_model.specs.Status.{bad_value, unknown_transaction, bad_type, service_specific, parcelable_exception}
@@ -134,7 +135,7 @@ stub p S i code b = do
   -- UNKNOWN_TRANSACTION: no method has the code
   m ← or_status unknown_transaction (position_of_code (methods_at S i) code)
   rest ← token_at p (descriptor S i) b  -- BAD_TYPE: the bytes don't begin with the token
-  saw ← arguments_at p S 0 (arguments S i m) rest  -- the status of the first argument that stops
+  saw ← arguments_at p S 0 (arguments (method_of S i m)) rest  -- the status of the first argument that stops
   Ok (received m saw.0 saw.1)  -- bytes are left over; or else the method is called
 
 -- The client
@@ -193,9 +194,9 @@ abbrev pub whole : AnswerData → List ℕ → Result AnswerData ℤ
 whole a [] = Ok a
 whole a (x ∷ rest) = Err bad_value
 
--- *Client*: the answer, or the status of the first wrong item
-unfoldable pub client : Profile → List Decl → ℕ → ℕ → List ℕ → Result AnswerData ℤ
-client p S i m b = do
+-- *Client*: the answer to a call of the method m, or the status of the first wrong item
+unfoldable pub client : Profile → MethodOf → List ℕ → Result AnswerData ℤ
+client p m b = do
   status ← word_at false b
-  a ← status_at p S (result_type S i m) (out_types S i m) status.0 status.1
+  a ← status_at p m.declarations (result_type m) (out_types m) status.0 status.1
   whole a.0 a.1

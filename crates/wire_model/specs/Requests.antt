@@ -1,6 +1,6 @@
 -- *Requests and replies*: the bytes of a call's request and of its reply (the compiler's generated proxy and stub;
 -- libbinder, Parcel.cpp: `writeInterfaceToken`, Status.cpp: `writeToParcel`; a token's first two words and the
--- bound on lengths are own). S is a schema's declarations, i the number of an interface, m the position of its method.
+-- bound on lengths are own). S is a schema's declarations, m a method.
 use Rattle.std.specs.Prelude.{◌≡◌, ℕ, ◌+◌, ◌≤◌, ℤ, pos, false, if◌then◌else◌, List, [], ◌∷◌, ◌++◌, length}
 use Rattle.std.specs.Prelude.{Option, Some, None, IsTrue, MatchBool, FitsSigned, codes}
 use Rattle.std.specs.Int.{w32}
@@ -16,6 +16,7 @@ use Rattle.aidl_values.specs.Data.{Data, null, number, Items, none, item}
 use Rattle.aidl_values.specs.Fits.{Fits}
 use Rattle.wire_model.specs.Calls.{AnswerData, returned, exception, descriptor, arguments, result_type, out_types}
 use Rattle.wire_model.specs.Calls.{is_out}
+use Rattle.wire_model.specs.MethodOf.{MethodOf}
 use Rattle.wire_model.specs.Spell.{spell, spell_text}
 use Rattle.wire_model.specs.Status.{bad_parcelable, minus}
 pub use Rattle.wire_model.specs.Status.{service_specific}
@@ -45,8 +46,9 @@ argument_parts S (a ∷ xs) none = []
 argument_parts S (a ∷ xs) (item v vs) = argument_part S a v ++ argument_parts S xs vs
 
 -- *Request*
-abbrev pub request : List Decl → ℕ → ℕ → Items → List ℕ
-request S i m args = token (descriptor S i) ++ argument_parts S (arguments S i m) args
+abbrev pub request : MethodOf → Items → List ℕ
+request m args =
+    token (descriptor m.declarations m.interface) ++ argument_parts m.declarations (arguments m) args
 
 -- a length, or null where the array may be
 abbrev pub IsLength : AidlType → Data → Type 0
@@ -80,9 +82,9 @@ sum_of_lengths (a ∷ xs) none = 0
 sum_of_lengths (a ∷ xs) (item v vs) = asked_length a v + sum_of_lengths xs vs
 
 -- *ArgsFit*: each argument fits, and the lengths add up to at most 65,536.
-pub record ArgsFit (S : List Decl) (i m : ℕ) (args : Items) : Type 0 where
-  pub each : ArgumentsFit S (arguments S i m) args
-  pub few : sum_of_lengths (arguments S i m) args ≤ 65536
+pub record ArgsFit (m : MethodOf) (args : Items) : Type 0 where
+  pub each : ArgumentsFit m.declarations (arguments m) args
+  pub few : sum_of_lengths (arguments m) args ≤ 65536
 
 -- values of these types, one after the other
 abbrev pub spell_each : List Decl → List AidlType → Items → List ℕ
@@ -101,10 +103,10 @@ spell_error code error = if int_eq code service_specific then word error else []
 
 -- *Reply*: the status 0 with the result and the outs; or an exception with its message, a stack-trace size 0 and
 -- the error
-abbrev pub reply : List Decl → ℕ → ℕ → AnswerData → List ℕ
-reply S i m (returned result outs) = word (pos 0)
-    ++ (spell_result S (result_type S i m) result ++ spell_each S (out_types S i m) outs)
-reply S i m (exception code message error) = word code
+abbrev pub reply : MethodOf → AnswerData → List ℕ
+reply m (returned result outs) = word (pos 0)
+    ++ (spell_result m.declarations (result_type m) result ++ spell_each m.declarations (out_types m) outs)
+reply m (exception code message error) = word code
     ++ (spell_text message ++ (word (pos 0) ++ spell_error code error))
 
 -- what is answered where bytes of a request are left over: EX_BAD_PARCELABLE with this message (own)
@@ -132,11 +134,12 @@ pub record ExceptionFits (code : ℤ) (message : List ℕ) (error : ℤ) : Type 
   pub int : FitsSigned w32 error
   pub no_error : int_eq code service_specific ≡ false → error ≡ pos 0
 
-abbrev pub IsAnswer : List Decl → ℕ → ℕ → AnswerData → Type 0
-IsAnswer S i m (returned result outs) = ResultFits S (result_type S i m) result × EachFits S (out_types S i m) outs
-IsAnswer S i m (exception code message error) = ExceptionFits code message error
+abbrev pub IsAnswer : MethodOf → AnswerData → Type 0
+IsAnswer m (returned result outs) =
+    ResultFits m.declarations (result_type m) result × EachFits m.declarations (out_types m) outs
+IsAnswer m (exception code message error) = ExceptionFits code message error
 
 -- *AnswerFits*: an answer of the method, whose reply has at most 1,048,576 bytes
-pub record AnswerFits (S : List Decl) (i m : ℕ) (a : AnswerData) : Type 0 where
-  pub answer : IsAnswer S i m a
-  pub small : length (reply S i m a) ≤ 1048576
+pub record AnswerFits (m : MethodOf) (a : AnswerData) : Type 0 where
+  pub answer : IsAnswer m a
+  pub small : length (reply m a) ≤ 1048576

@@ -1,7 +1,8 @@
 -- *Unknown tag*: what hinders a view (own). A union tag is unknown to the receiver where its union has no field of
 -- the tag's name. A is the sender's declarations and t its type, B the receiver's and u its type. What stands below
 -- a field that the receiver drops isn't looked at.
-use Rattle.std.specs.Prelude.{ℕ, Bool, true, false, ◌||◌, if◌then◌else◌, List, [], ◌∷◌, Option, Some, None, slice_get}
+use Rattle.std.specs.Prelude.{◌≡◌, ℕ, Bool, true, false, ◌||◌, if◌then◌else◌, List, [], ◌∷◌, Option, Some, None}
+use Rattle.std.specs.Prelude.{is_none, slice_get}
 use Rattle.std.specs.List.{list_any}
 use Rattle.aidl_schema.specs.declared.schema.AidlType.{AidlType}
 use Rattle.aidl_schema.specs.declared.schema.Arg.{Arg}
@@ -10,7 +11,10 @@ use Rattle.aidl_schema.specs.declared.schema.Field.{Field}
 use Rattle.aidl_schema.specs.Same.{same_text}
 use Rattle.aidl_schema.specs.Types.{form_of, elem}
 use Rattle.aidl_values.specs.Data.{Data, null, truth, number, text, seq, rec, alt, Items, none, item}
-use Rattle.wire_model.specs.Calls.{arguments, is_out, out_types, result_type}
+use Rattle.wire_model.specs.Calls.{returned, arguments, is_out, out_types, result_type}
+use Rattle.wire_model.specs.MethodOf.{MethodOf}
+use Rattle.wire_model.specs.Outcome.{Reaches, view_arguments, view_result, view_values}
+use Rattle.wire_model.specs.Requests.{ArgumentsFit, IsAnswer}
 use Rattle.wire_model.specs.Spell.{parcelable_fields, union_fields}
 use Rattle.wire_model.specs.View.{field_named}
 
@@ -81,12 +85,26 @@ result_has_unknown_tag B (Some t) A (Some u) None = false
 result_has_unknown_tag B (Some t) A None r = false
 result_has_unknown_tag B None A u r = false
 
--- of a call of method m of the client's interface i, which is method n of the server's interface j: the server
--- doesn't know a tag in what is sent
-abbrev pub is_unknown_sent : List Decl → ℕ → ℕ → List Decl → ℕ → ℕ → Items → Bool
-is_unknown_sent A i m B j n args = arguments_have_unknown_tag A (arguments A i m) B (arguments B j n) args
+-- of a call of the client's method a, which is the server's method b: the server doesn't know a tag in what is sent
+abbrev pub is_unknown_sent : MethodOf → MethodOf → Items → Bool
+is_unknown_sent a b args =
+    arguments_have_unknown_tag a.declarations (arguments a) b.declarations (arguments b) args
 
 -- the client doesn't know one in the result, or in what comes back of an `out` or `inout` argument
-abbrev pub is_unknown_answered : List Decl → ℕ → ℕ → List Decl → ℕ → ℕ → Option Data → Items → Bool
-is_unknown_answered A i m B j n result outs = result_has_unknown_tag B (result_type B j n) A (result_type A i m)
-    result || values_have_unknown_tag B (out_types B j n) A (out_types A i m) outs
+abbrev pub is_unknown_answered : MethodOf → MethodOf → Option Data → Items → Bool
+is_unknown_answered a b result outs =
+    result_has_unknown_tag b.declarations (result_type b) a.declarations (result_type a) result
+    || values_have_unknown_tag b.declarations (out_types b) a.declarations (out_types a) outs
+
+-- What is sent has no view exactly where a tag in it is unknown.
+abbrev pub TagsHinderSent : MethodOf → MethodOf → Type 0
+TagsHinderSent a b = (args : Items) → Reaches a b → ArgumentsFit a.declarations (arguments a) args
+    → is_none (view_arguments a.declarations (arguments a) b.declarations (arguments b) args)
+    ≡ is_unknown_sent a b args
+
+-- the same of a result and outs
+abbrev pub TagsHinderAnswered : MethodOf → MethodOf → Type 0
+TagsHinderAnswered a b = (result : Option Data) (outs : Items) → Reaches a b → IsAnswer b (returned result outs)
+    → (is_none (view_result b.declarations (result_type b) a.declarations (result_type a) result)
+    || is_none (view_values b.declarations (out_types b) a.declarations (out_types a) outs))
+    ≡ is_unknown_answered a b result outs

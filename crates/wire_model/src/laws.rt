@@ -11,6 +11,7 @@ ghost use Rattle.aidl_values.specs.HasType.{HasType};
 ghost use Rattle.aidl_values.specs.Nodes.{nodes_of};
 ghost use Rattle.aidl_values.specs.View.{view, views};
 ghost use Rattle.wire_model.specs.Calls.{AnswerData, answer_of, returned, arguments, code_at, descriptor, is_oneway, method_at, out_types, result_type};
+ghost use Rattle.wire_model.specs.MethodOf.{method_of};
 ghost use Rattle.wire_model.specs.Outcome.{OneFollows, Reaches, SameWays, declared_as, done, method_like, oneway, outcome, outcome_within, received_call, seen_answer, view_arguments, view_result, view_values};
 ghost use Rattle.wire_model.specs.ReadOf.{read_of};
 ghost use Rattle.wire_model.specs.Reads.{FrontReads, Reads};
@@ -21,7 +22,7 @@ ghost use Rattle.wire_model.specs.Spell.{spell};
 ghost use Rattle.wire_model.specs.Status.{IsStatus, IsTransport, bad_value, unknown_transaction};
 ghost use Rattle.wire_model.specs.Stop.{Stop, Stops};
 ghost use Rattle.wire_model.specs.Typed.{AreArguments, IsGot};
-ghost use Rattle.wire_model.specs.Unknown.{has_unknown_tag, is_unknown_answered, is_unknown_sent};
+ghost use Rattle.wire_model.specs.Unknown.{TagsHinderAnswered, TagsHinderSent, has_unknown_tag};
 ghost use Rattle.wire_model.specs.View.{view_of};
 ghost use Rattle.wire_model.specs.steps.CallsMeet.{CallsMeet};
 ghost use Rattle.wire_model.specs.steps.Meets.{Meets};
@@ -205,19 +206,10 @@ pub fn law_view_none(a: &Schema, b: &Schema)
 /// The same of a call from a client `a` to a method of the server `b` that has its name: of the arguments, where what is sent of an `out` one
 /// isn't looked at, and of the result and the outs.
 pub fn law_call_none(a: &Schema, b: &Schema)
-    ensures sent { OneFollows a.now.decls b.now.decls
-        → (i m j n : ℕ) (args : Items) → Reaches a.now.decls i m b.now.decls j n
-        → ArgumentsFit a.now.decls (arguments a.now.decls i m) args
-        → is_none (view_arguments a.now.decls (arguments a.now.decls i m) b.now.decls
-        (arguments b.now.decls j n) args) ≡ is_unknown_sent a.now.decls i m b.now.decls j n args }
+    ensures sent { OneFollows a.now.decls b.now.decls → (i m j n : ℕ)
+        → TagsHinderSent (method_of a.now.decls i m) (method_of b.now.decls j n) }
     ensures answered { OneFollows a.now.decls b.now.decls → (i m j n : ℕ)
-        (result : Option Data) (outs : Items) → Reaches a.now.decls i m b.now.decls j n
-        → IsAnswer b.now.decls j n (returned result outs)
-        → (is_none (view_result b.now.decls (result_type b.now.decls j n) a.now.decls
-        (result_type a.now.decls i m) result)
-        || is_none (view_values b.now.decls (out_types b.now.decls j n) a.now.decls
-        (out_types a.now.decls i m) outs))
-        ≡ is_unknown_answered a.now.decls i m b.now.decls j n result outs }
+        → TagsHinderAnswered (method_of a.now.decls i m) (method_of b.now.decls j n) }
 {
     law_meets(a, b);
     law_meets(b, a);
@@ -233,8 +225,7 @@ pub fn law_stub(profile: Profile, schema: &Schema, interface: u32, code: u32, by
         ≡ Ok (called m saw)
         → position_of_code (methods_at schema.now.decls interface) code ≡ Some m }
     ensures typed { (m : ℕ) (saw : Items) → stub profile schema.now.decls interface code bytes.now
-        ≡ Ok (called m saw)
-        → AreArguments schema.now.decls interface m saw }
+        ≡ Ok (called m saw) → AreArguments (method_of schema.now.decls interface m) saw }
     ensures status { (s : ℤ) → stub profile schema.now.decls interface code bytes.now ≡ Err s
         → IsTransport s }
 {
@@ -245,9 +236,11 @@ pub fn law_stub(profile: Profile, schema: &Schema, interface: u32, code: u32, by
 
 /// What a client gets of a method has the types of its result and of its outs. A reply is refused with a status of reading.
 pub fn law_client(profile: Profile, schema: &Schema, interface: u32, method: u32, bytes: &[u8])
-    ensures typed { (a : AnswerData) → client profile schema.now.decls interface method bytes.now
-        ≡ Ok a → IsGot schema.now.decls interface method a }
-    ensures status { (s : ℤ) → client profile schema.now.decls interface method bytes.now ≡ Err s
+    ensures typed { (a : AnswerData) → client profile (method_of schema.now.decls interface method)
+        bytes.now
+        ≡ Ok a → IsGot (method_of schema.now.decls interface method) a }
+    ensures status { (s : ℤ) → client profile (method_of schema.now.decls interface method)
+        bytes.now ≡ Err s
         → IsStatus s }
 {
     law_sound(schema);
@@ -264,13 +257,14 @@ pub fn law_request_called(
     bytes: &[u8],
 )
     requires there { method < length (methods_at schema.now.decls interface) }
-    requires fits { ArgsFit schema.now.decls interface method (views args.now) }
-    requires spelled { bytes.now ≡ request schema.now.decls interface method (views args.now) }
+    requires fits { ArgsFit (method_of schema.now.decls interface method) (views args.now) }
+    requires spelled { bytes.now ≡ request (method_of schema.now.decls interface method)
+        (views args.now) }
     requires small { length bytes.now ≤ 1048576 }
     ensures { stub profile schema.now.decls interface
-        (code_at schema.now.decls interface method) bytes.now
+        (code_at (method_of schema.now.decls interface method)) bytes.now
         ≡ Ok (called method (opened_arguments schema.now.decls
-        (arguments schema.now.decls interface method) (views args.now))) }
+        (arguments (method_of schema.now.decls interface method)) (views args.now))) }
 {
     law_chain(schema, schema, schema);
     law_meets(schema, schema);
@@ -290,9 +284,11 @@ pub fn law_reply_got(
     bytes: &[u8],
 )
     requires there { method < length (methods_at schema.now.decls interface) }
-    requires fits { AnswerFits schema.now.decls interface method (answer_of answer.now) }
-    requires spelled { bytes.now ≡ reply schema.now.decls interface method (answer_of answer.now) }
-    ensures { client profile schema.now.decls interface method bytes.now
+    requires fits { AnswerFits (method_of schema.now.decls interface method)
+        (answer_of answer.now) }
+    requires spelled { bytes.now ≡ reply (method_of schema.now.decls interface method)
+        (answer_of answer.now) }
+    ensures { client profile (method_of schema.now.decls interface method) bytes.now
         ≡ Ok (answer_of answer.now) }
 {
     law_chain(schema, schema, schema);
@@ -318,11 +314,14 @@ pub fn law_request_seen(
 )
     requires unbroken { OneFollows a.now.decls b.now.decls }
     requires shared { declared_as b.now.decls (descriptor a.now.decls interface) ≡ Some other }
-    requires fits { ArgsFit a.now.decls interface method (views args.now) }
-    requires spelled { bytes.now ≡ request a.now.decls interface method (views args.now) }
+    requires fits { ArgsFit (method_of a.now.decls interface method) (views args.now) }
+    requires spelled { bytes.now ≡ request (method_of a.now.decls interface method)
+        (views args.now) }
     requires small { length bytes.now ≤ 1048576 }
-    ensures { stub profile b.now.decls other (code_at a.now.decls interface method) bytes.now
-        ≡ received_call a.now.decls interface method b.now.decls other (views args.now) }
+    ensures { stub profile b.now.decls other (code_at (method_of a.now.decls interface method))
+        bytes.now
+        ≡ received_call (method_of a.now.decls interface method) b.now.decls other
+        (views args.now) }
 {
     law_meets(a, b);
     law_calls_meet(a, b);
@@ -345,12 +344,14 @@ pub fn law_reply_seen(
 )
     requires unbroken { OneFollows a.now.decls b.now.decls }
     requires shared { declared_as b.now.decls (descriptor a.now.decls interface) ≡ Some other }
-    requires common { method_like (method_at a.now.decls interface method)
+    requires common { method_like (method_at (method_of a.now.decls interface method))
         (methods_at b.now.decls other) ≡ Some other_method }
-    requires fits { AnswerFits b.now.decls other other_method (answer_of answer.now) }
-    requires spelled { bytes.now ≡ reply b.now.decls other other_method (answer_of answer.now) }
-    ensures { client profile a.now.decls interface method bytes.now
-        ≡ seen_answer b.now.decls other other_method a.now.decls interface method
+    requires fits { AnswerFits (method_of b.now.decls other other_method) (answer_of answer.now) }
+    requires spelled { bytes.now ≡ reply (method_of b.now.decls other other_method)
+        (answer_of answer.now) }
+    ensures { client profile (method_of a.now.decls interface method) bytes.now
+        ≡ seen_answer (method_of b.now.decls other other_method)
+        (method_of a.now.decls interface method)
         (answer_of answer.now) }
 {
     law_meets(b, a);
@@ -374,45 +375,50 @@ pub fn law_outcome(
     sent: &[u8],
     replied: &[u8],
 )
-    requires fits { ArgsFit a.now.decls interface method (views args.now) }
-    requires spelled { sent.now ≡ request a.now.decls interface method (views args.now) }
+    requires fits { ArgsFit (method_of a.now.decls interface method) (views args.now) }
+    requires spelled { sent.now ≡ request (method_of a.now.decls interface method)
+        (views args.now) }
     requires small { length sent.now ≤ 1048576 }
     ensures nowhere { OneFollows a.now.decls b.now.decls
         → declared_as b.now.decls (descriptor a.now.decls interface) ≡ None
-        → outcome a.now.decls interface method b.now.decls (views args.now) (answer_of answer.now)
+        → outcome (method_of a.now.decls interface method) b.now.decls (views args.now)
+        (answer_of answer.now)
         ≡ Err unknown_transaction }
     ensures refused { OneFollows a.now.decls b.now.decls
         → declared_as b.now.decls (descriptor a.now.decls interface) ≡ Some other
         → (s : ℤ) → stub profile b.now.decls other
-        (code_at a.now.decls interface method) sent.now ≡ Err s
-        → outcome a.now.decls interface method b.now.decls
+        (code_at (method_of a.now.decls interface method)) sent.now ≡ Err s
+        → outcome (method_of a.now.decls interface method) b.now.decls
         (views args.now) (answer_of answer.now) ≡ Err s }
     ensures never_left { OneFollows a.now.decls b.now.decls
         → declared_as b.now.decls (descriptor a.now.decls interface) ≡ Some other
-        → (n : ℕ) → stub profile b.now.decls other (code_at a.now.decls interface method) sent.now
+        → (n : ℕ) → stub profile b.now.decls other (code_at
+        (method_of a.now.decls interface method)) sent.now
         ≡ Ok (left n) → ⊥ }
     ensures common { OneFollows a.now.decls b.now.decls
         → declared_as b.now.decls (descriptor a.now.decls interface) ≡ Some other
         → (n : ℕ) (saw : Items) → stub profile b.now.decls other
-        (code_at a.now.decls interface method) sent.now ≡ Ok (called n saw)
-        → method_like (method_at a.now.decls interface method)
+        (code_at (method_of a.now.decls interface method)) sent.now ≡ Ok (called n saw)
+        → method_like (method_at (method_of a.now.decls interface method))
         (methods_at b.now.decls other) ≡ Some n }
     ensures oneway { OneFollows a.now.decls b.now.decls
         → declared_as b.now.decls (descriptor a.now.decls interface) ≡ Some other
         → (n : ℕ) (saw : Items) → stub profile b.now.decls other
-        (code_at a.now.decls interface method) sent.now ≡ Ok (called n saw)
-        → is_oneway b.now.decls other n ≡ true
-        → outcome a.now.decls interface method b.now.decls (views args.now) (answer_of answer.now)
+        (code_at (method_of a.now.decls interface method)) sent.now ≡ Ok (called n saw)
+        → is_oneway (method_of b.now.decls other n) ≡ true
+        → outcome (method_of a.now.decls interface method) b.now.decls (views args.now)
+        (answer_of answer.now)
         ≡ Ok (oneway saw) }
     ensures done { OneFollows a.now.decls b.now.decls
         → declared_as b.now.decls (descriptor a.now.decls interface) ≡ Some other
         → (n : ℕ) (saw : Items) → stub profile b.now.decls other
-        (code_at a.now.decls interface method) sent.now ≡ Ok (called n saw)
-        → is_oneway b.now.decls other n ≡ false
-        → AnswerFits b.now.decls other n (answer_of answer.now)
-        → replied.now ≡ reply b.now.decls other n (answer_of answer.now)
-        → outcome a.now.decls interface method b.now.decls (views args.now) (answer_of answer.now)
-        ≡ Ok (done saw (client profile a.now.decls interface method replied.now)) }
+        (code_at (method_of a.now.decls interface method)) sent.now ≡ Ok (called n saw)
+        → is_oneway (method_of b.now.decls other n) ≡ false
+        → AnswerFits (method_of b.now.decls other n) (answer_of answer.now)
+        → replied.now ≡ reply (method_of b.now.decls other n) (answer_of answer.now)
+        → outcome (method_of a.now.decls interface method) b.now.decls (views args.now)
+        (answer_of answer.now)
+        ≡ Ok (done saw (client profile (method_of a.now.decls interface method) replied.now)) }
 {
     law_meets(a, b);
     law_meets(b, a);
@@ -434,16 +440,17 @@ pub fn law_outcome_within(
     answer: &Answer,
 )
     requires there { method < length (methods_at schema.now.decls interface) }
-    requires fits { ArgsFit schema.now.decls interface method (views args.now) }
+    requires fits { ArgsFit (method_of schema.now.decls interface method) (views args.now) }
     ensures declared { declared_as schema.now.decls (descriptor schema.now.decls interface)
         ≡ Some interface }
-    ensures like { method_like (method_at schema.now.decls interface method)
+    ensures like { method_like (method_at (method_of schema.now.decls interface method))
         (methods_at schema.now.decls interface) ≡ Some method }
-    ensures comes { AnswerFits schema.now.decls interface method (answer_of answer.now)
-        → outcome schema.now.decls interface method schema.now.decls
+    ensures comes { AnswerFits (method_of schema.now.decls interface method) (answer_of answer.now)
+        → outcome (method_of schema.now.decls interface method) schema.now.decls
         (views args.now) (answer_of answer.now)
         ≡ Ok
-        (outcome_within schema.now.decls interface method (views args.now) (answer_of answer.now)) }
+        (outcome_within (method_of schema.now.decls interface method) (views args.now)
+        (answer_of answer.now)) }
 {
     law_chain(schema, schema, schema);
     law_meets(schema, schema);

@@ -13,6 +13,7 @@ use Rattle.aidl_schema.specs.Methods.{has_method_types, is_passed_type, is_resul
 use Rattle.aidl_schema.specs.Names.{methods_of}
 use Rattle.aidl_schema.specs.Types.{is_type}
 use Rattle.wire_model.specs.Calls.{method_at}
+use Rattle.wire_model.specs.MethodOf.{method_of}
 
 all_at : {X : Type 0} (p : X → Bool) (xs : List X) (i : ℕ) (x : X) → list_all p xs ≡ true → slice_get xs i ≡ Some x → p x ≡ true
 all_at p [] i x all at = cc
@@ -24,7 +25,7 @@ pub record IsTyped (S : List Decl) (w : Method) : Type 0 where
   pub passed : list_all (λ a. is_passed_type S a.ty) w.args ≡ true
   pub returned : is_result_type S w.result ≡ true
 
-pub typed : (S : List Decl) → AllHold S → (i m : ℕ) (w : Method) → method_at S i m ≡ Some w → IsTyped S w
+pub typed : (S : List Decl) → AllHold S → (i m : ℕ) (w : Method) → method_at (method_of S i m) ≡ Some w → IsTyped S w
 typed S hold i m w e = by_decl (slice_get S i) refl e
   where
     in_decl : (d : Decl) → slice_get S i ≡ Some d → slice_get (methods_of d.kind) m ≡ Some w → IsTyped S w

@@ -4,6 +4,7 @@ use Rattle.aidl_schema.specs.declared.schema.Decl.{Decl}
 use Rattle.compat_witness.specs.Candidates.{Values, fit_between, bytes_between}
 use Rattle.compat_witness.specs.Candidates.{read_between, projected_between}
 use Rattle.compat_witness.specs.Sides.{Side}
+use Rattle.wire_model.specs.MethodOf.{MethodOf}
 use Rattle.witness_calls.specs.declared.showing.Showing.{Showing}
 use Rattle.witness_calls.specs.Seen.{reading_seen}
 
@@ -34,6 +35,7 @@ IsWeighedBy Fits bytes read projected None = NoneCount Fits bytes
 IsWeighedBy Fits bytes read projected (Some s) = AreWeighed Fits bytes read projected s
 
 -- the same of what is sent between a client A and a server B
-abbrev pub IsWeighedBetween : List Decl → List Decl → ℕ → ℕ → Values → Option Showing → Type 0
-IsWeighedBetween A B i m values o = IsWeighedBy (fit_between A B i m values) (bytes_between A B i m values)
-    (read_between A B i m values) (projected_between A B i m values) o
+abbrev pub IsWeighedBetween : MethodOf → List Decl → Values → Option Showing → Type 0
+IsWeighedBetween a B values o =
+    IsWeighedBy (fit_between a B values) (bytes_between a B values) (read_between a B values)
+    (projected_between a B values) o

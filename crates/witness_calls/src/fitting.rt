@@ -17,8 +17,7 @@ const MOST_LEVELS: usize = 64;
 
 /// Whether arguments fit a method.
 pub fn args_fit(client: &VersionMethod<'_, '_>, values: &[Value]) -> bool
-    ensures { IsTrue result
-        ↔ ArgsFit client.now.decls client.now.interface client.now.method (views values.now) }
+    ensures { IsTrue result ↔ ArgsFit client.now (views values.now) }
 {
     let args = client.declared().args.as_slice();
     if !arguments_fit(client.schema(), args, values) {
@@ -137,9 +136,8 @@ fn asked_length(arg: &Arg, value: &Value) -> usize
 /// Whether an answer is one of a two-way method.
 #[tactic(auto, using(crate::proofs::Tests::one_way, crate::proofs::Tests::two_way))]
 pub fn is_two_way_answer(server: &VersionMethod<'_, '_>, answer: &Answer) -> bool
-    ensures { IsTrue result
-        ↔ ((is_oneway server.now.decls server.now.interface server.now.method ≡ false)
-        × IsAnswer server.now.decls server.now.interface server.now.method (answer_of answer.now)) }
+    ensures { IsTrue result ↔ ((is_oneway server.now ≡ false)
+        × IsAnswer server.now (answer_of answer.now)) }
 {
     if server.declared().oneway {
         return false;
@@ -150,8 +148,7 @@ pub fn is_two_way_answer(server: &VersionMethod<'_, '_>, answer: &Answer) -> boo
 // Whether an answer has the result and the outs of a method, or is an exception.
 #[tactic(auto, using(crate::proofs::Tests::first_fails, crate::proofs::Tests::second))]
 fn is_answer(server: &VersionMethod<'_, '_>, answer: &Answer) -> bool
-    ensures { IsTrue result
-        ↔ IsAnswer server.now.decls server.now.interface server.now.method (answer_of answer.now) }
+    ensures { IsTrue result ↔ IsAnswer server.now (answer_of answer.now) }
 {
     match answer {
         Answer::Returned { result, outs } => {

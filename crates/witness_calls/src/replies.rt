@@ -31,7 +31,7 @@ pub fn weigh_reply(
     server: &Version<'_>,
     answer: &Option<Answer>,
 ) -> Result<Option<Showing>, OutOfMemory>
-    ensures { IfOk result (λ o. IsWeighedBetween client.now.decls server.now client.now.interface client.now.method
+    ensures { IfOk result (λ o. IsWeighedBetween client.now server.now
         (answered (option_map answer_of answer.now)) o) }
 {
     match client.counterpart(server) {
@@ -48,17 +48,11 @@ fn weigh_answer(
     answer: &Option<Answer>,
 ) -> Result<Option<Showing>, OutOfMemory>
     ensures { IfOk result (λ o. IsWeighedBy
-        (IsAnswerOf server.now.decls server.now.interface server.now.method
-        (option_map answer_of answer.now))
-        (answer_bytes server.now.decls server.now.interface server.now.method
-        (option_map answer_of answer.now))
-        (read_reply client.now.decls client.now.interface
-        client.now.method server.now.decls server.now.interface server.now.method
-        (answer_bytes server.now.decls server.now.interface server.now.method
-        (option_map answer_of answer.now)))
-        (projected_reply server.now.decls server.now.interface server.now.method
-        client.now.decls client.now.interface client.now.method
-        (option_map answer_of answer.now)) o) }
+        (IsAnswerOf server.now (option_map answer_of answer.now))
+        (answer_bytes server.now (option_map answer_of answer.now))
+        (read_reply client.now server.now
+        (answer_bytes server.now (option_map answer_of answer.now)))
+        (projected_reply server.now client.now (option_map answer_of answer.now)) o) }
 {
     let Some(bytes) = counted_reply(alloc, server, answer)? else {
         return Ok(None);
@@ -79,10 +73,8 @@ fn counted_reply(
     answer: &Option<Answer>,
 ) -> Result<Option<Row<u8>>, OutOfMemory>
     ensures { IfOk result (λ o. IsCounted
-        (IsAnswerOf server.now.decls server.now.interface server.now.method
-        (option_map answer_of answer.now))
-        (answer_bytes server.now.decls server.now.interface server.now.method
-        (option_map answer_of answer.now)) o) }
+        (IsAnswerOf server.now (option_map answer_of answer.now))
+        (answer_bytes server.now (option_map answer_of answer.now)) o) }
 {
     match answer {
         Some(answer) => counted_answer(alloc, server, answer),
@@ -98,9 +90,8 @@ fn counted_answer(
     answer: &Answer,
 ) -> Result<Option<Row<u8>>, OutOfMemory>
     ensures { IfOk result (λ o. IsCounted
-        ((is_oneway server.now.decls server.now.interface server.now.method ≡ false)
-        × IsAnswer server.now.decls server.now.interface server.now.method (answer_of answer.now))
-        (reply server.now.decls server.now.interface server.now.method (answer_of answer.now)) o) }
+        ((is_oneway server.now ≡ false) × IsAnswer server.now (answer_of answer.now))
+        (reply server.now (answer_of answer.now)) o) }
 {
     if !is_two_way_answer(server, answer) {
         return Ok(None);
@@ -120,9 +111,7 @@ fn read_reply(
     server: &VersionMethod<'_, '_>,
     bytes: &[u8],
 ) -> Result<Reading, OutOfMemory>
-    ensures { IfOk result (λ r. reading_seen r
-        ≡ read_reply client.now.decls client.now.interface client.now.method
-        server.now.decls server.now.interface server.now.method bytes.now) }
+    ensures { IfOk result (λ r. reading_seen r ≡ read_reply client.now server.now bytes.now) }
 {
     if server.declared().oneway {
         return Ok(Reading::NoReply);
@@ -139,9 +128,8 @@ fn project_answer(
     client: &VersionMethod<'_, '_>,
     answer: &Option<Answer>,
 ) -> Result<Got, OutOfMemory>
-    ensures { IfOk result (λ got. got_of got
-        ≡ projected_answer server.now.decls server.now.interface server.now.method
-        client.now.decls client.now.interface client.now.method (option_map answer_of answer.now)) }
+    ensures { IfOk result (λ got. got_of got ≡ projected_answer server.now client.now
+        (option_map answer_of answer.now)) }
 {
     match answer {
         Some(Answer::Returned { result, outs }) => {
@@ -196,10 +184,8 @@ fn project_sent(
     client: &VersionMethod<'_, '_>,
     sent: &Sent<'_>,
 ) -> Result<Got, OutOfMemory>
-    ensures { IfOk result (λ got. got_of got
-        ≡ sent_seen server.now.decls sent.now.ty sent.now.args.now
-        client.now.decls client.now.interface client.now.method
-        (optional_view sent.now.value.now) (views sent.now.outs.now)) }
+    ensures { IfOk result (λ got. got_of got ≡ sent_seen server.now.declarations sent.now.ty
+        sent.now.args.now client.now (optional_view sent.now.value.now) (views sent.now.outs.now)) }
 {
     let ends = Ends {
         sender: server.fields(),

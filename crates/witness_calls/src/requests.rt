@@ -28,7 +28,7 @@ pub fn weigh_request(
     server: &Version<'_>,
     args: &[Value],
 ) -> Result<Option<Showing>, OutOfMemory>
-    ensures { IfOk result (λ o. IsWeighedBetween client.now.decls server.now client.now.interface client.now.method
+    ensures { IfOk result (λ o. IsWeighedBetween client.now server.now
         (arguments (views args.now)) o) }
 {
     let Some(bytes) = counted_request(alloc, client, args)? else {
@@ -50,8 +50,8 @@ fn counted_request(
     args: &[Value],
 ) -> Result<Option<Row<u8>>, OutOfMemory>
     ensures { IfOk result (λ o. IsCounted
-        (ArgsFit client.now.decls client.now.interface client.now.method (views args.now))
-        (request client.now.decls client.now.interface client.now.method (views args.now)) o) }
+        (ArgsFit client.now (views args.now))
+        (request client.now (views args.now)) o) }
 {
     if !args_fit(client, args) {
         return Ok(None);
@@ -70,9 +70,7 @@ fn read_request(
     server: &Version<'_>,
     bytes: &[u8],
 ) -> Result<Reading, OutOfMemory>
-    ensures { IfOk result (λ r. reading_seen r
-        ≡ read_request client.now.decls client.now.interface
-        client.now.method server.now bytes.now) }
+    ensures { IfOk result (λ r. reading_seen r ≡ read_request client.now server.now bytes.now) }
 {
     let Some(interface) = client.interface_in(server) else {
         return Ok(Reading::Transport(UNKNOWN_TRANSACTION));
@@ -105,8 +103,7 @@ fn project_request(
     server: &Version<'_>,
     args: &[Value],
 ) -> Result<Reading, OutOfMemory>
-    ensures { IfOk result (λ r. reading_seen r
-        ≡ projected_request client.now.decls client.now.interface client.now.method server.now
+    ensures { IfOk result (λ r. reading_seen r ≡ projected_request client.now server.now
         (views args.now)) }
 {
     match client.counterpart(server) {
@@ -122,9 +119,8 @@ fn project_called(
     target: &VersionMethod<'_, '_>,
     args: &[Value],
 ) -> Result<Reading, OutOfMemory>
-    ensures { IfOk result (λ r. reading_seen r
-        ≡ side_of (called_at client.now.decls client.now.interface client.now.method
-        target.now.decls target.now.interface target.now.method (views args.now))) }
+    ensures { IfOk result (λ r. reading_seen r ≡ side_of (called_at client.now target.now
+        (views args.now))) }
 {
     let ends = Ends {
         sender: client.fields(),

@@ -4,6 +4,7 @@ ghost use Rattle.std.specs.Option.{option_copied};
 ghost use Rattle.aidl_schema.specs.Find.{fields_at, methods_at, position_of_code};
 ghost use Rattle.stub_dispatch.specs.Planned.{ArePlansOf};
 ghost use Rattle.wire_model.specs.Calls.{descriptor};
+ghost use Rattle.wire_model.specs.MethodOf.{method_of};
 ghost use Rattle.wire_model.specs.Outcome as meant;
 ghost use Rattle.witness_calls.specs.Named.{field_named, method_named};
 
@@ -81,7 +82,7 @@ impl<'a> Version<'a> {
     /// The method at a position of an interface.
     pub(crate) fn callee(&self, interface: u32, method: u32) -> VersionMethod<'_, 'a>
         requires { method < length (methods_at self.now interface) }
-        ensures { result ≡ record { decls = self.now; interface = interface; method = method } }
+        ensures { result ≡ method_of self.now interface method }
     {
         let callee = Callee::new(&self.side, interface, method);
         VersionMethod::new(callee, self)

@@ -3,6 +3,7 @@ ghost use Rattle.std.specs.Prelude.{◌≡◌, ◌<◌, false, length, IfOk, Lis
 ghost use Rattle.aidl_schema.specs.declared.schema.Decl.{Decl};
 ghost use Rattle.aidl_schema.specs.Find.{methods_at};
 ghost use Rattle.compat_witness.specs.Candidates.{fit_between};
+ghost use Rattle.wire_model.specs.MethodOf.{method_of};
 ghost use Rattle.witness_calls.specs.Seen.{values_seen};
 ghost use Rattle.witness_calls.specs.Counted.{IsWeighedBetween};
 
@@ -24,7 +25,8 @@ pub fn weigh(
     call: &Call,
 ) -> Result<Option<Showing>, OutOfMemory>
     requires { call.now.method < length (methods_at client.now call.now.interface) }
-    ensures { IfOk result (λ o. IsWeighedBetween client.now server.now call.now.interface call.now.method
+    ensures { IfOk result (λ o. IsWeighedBetween
+        (method_of client.now call.now.interface call.now.method) server.now
         (values_seen call.now.values) o) }
 {
     let method = client.callee(call.interface, call.method);
@@ -39,7 +41,8 @@ pub fn weigh(
 pub fn may_fit(client: &Version<'_>, call: &Call) -> bool
     requires { call.now.method < length (methods_at client.now call.now.interface) }
     ensures { result ≡ false → (B : List Decl)
-        → fit_between client.now B call.now.interface call.now.method (values_seen call.now.values) → ⊥ }
+        → fit_between (method_of client.now call.now.interface call.now.method) B
+        (values_seen call.now.values) → ⊥ }
 {
     match &call.values {
         Values::Arguments(args) => {

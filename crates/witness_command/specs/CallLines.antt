@@ -8,6 +8,7 @@ use Rattle.compat_witness.specs.Sides.{Side}
 use Rattle.tool_frame.specs.Answer.{line}
 use Rattle.tool_frame.specs.Shown.{shown}
 use Rattle.wire_model.specs.Calls.{descriptor, method_at}
+use Rattle.wire_model.specs.MethodOf.{MethodOf, method_of}
 use Rattle.wire_model.specs.Outcome.{declared_as}
 use Rattle.witness_command.specs.SideText.{name_of_method, side_text}
 
@@ -21,12 +22,12 @@ abbrev pub way_text : Bool → List ℕ
 way_text back = if back then codes " < " else codes " > "
 
 -- INTERFACE.METHOD, by the name of the client's interface
-abbrev pub full_name : List ℕ → List Decl → ℕ → ℕ → List ℕ
-full_name name A i m = encode_utf8_all name ++ codes "." ++ name_of_method (method_at A i m)
+abbrev pub full_name : List ℕ → MethodOf → List ℕ
+full_name name m = encode_utf8_all name ++ codes "." ++ name_of_method (method_at m)
 
 -- `call > INTERFACE.METHOD`
 abbrev pub heading_text : List ℕ → List Decl → Candidate → List ℕ
-heading_text name A c = word_text c.values ++ way_text c.back ++ full_name name A c.interface c.method
+heading_text name A c = word_text c.values ++ way_text c.back ++ full_name name (method_of A c.interface c.method)
 
 -- `call > INTERFACE.METHOD HEX`
 abbrev pub call_line : List ℕ → List Decl → Candidate → List ℕ → List ℕ

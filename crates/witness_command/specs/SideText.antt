@@ -7,6 +7,7 @@ use Rattle.aidl_schema.specs.declared.schema.Method.{Method}
 use Rattle.aidl_values.specs.Data.{Data}
 use Rattle.compat_witness.specs.Sides.{Side, transport, left, called, client, no_reply}
 use Rattle.wire_model.specs.Calls.{AnswerData, returned, exception, method_at}
+use Rattle.wire_model.specs.MethodOf.{method_of}
 use Rattle.witness_command.specs.Texts.{value_text, values_text}
 
 -- a method's simple name; nothing where there is no method
@@ -17,7 +18,7 @@ name_of_method (Some m) = encode_utf8_all m.name.0
 -- that of the method at a position of the server's interface; nothing where there is no interface
 abbrev pub name_at : List Decl → Option ℕ → ℕ → List ℕ
 name_at S None n = []
-name_at S (Some j) n = name_of_method (method_at S j n)
+name_at S (Some j) n = name_of_method (method_at (method_of S j n))
 
 -- a result; `void` where there is none
 abbrev pub result_text : Option Data → List ℕ

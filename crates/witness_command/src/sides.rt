@@ -3,6 +3,7 @@ ghost use Rattle.std.specs.Prelude.{◌≡◌};
 ghost use Rattle.growing.specs.Grows.{Grows};
 ghost use Rattle.stub_dispatch.specs.Got.{got_of};
 ghost use Rattle.wire_model.specs.Calls.{method_at, optional_view};
+ghost use Rattle.wire_model.specs.MethodOf.{method_of};
 ghost use Rattle.witness_calls.specs.Seen.{reading_seen};
 ghost use Rattle.witness_command.specs.SideText.{client_text, name_at, name_of_method, result_text, side_text};
 
@@ -80,7 +81,8 @@ fn name_at(schema: &Schema, interface: Option<u32>, method: u32) -> &str
 
 /// The simple name of the method at a position of an interface, and nothing where there is none.
 pub fn method_name(schema: &Schema, interface: u32, method: u32) -> &str
-    ensures { result.now ≡ name_of_method (method_at schema.now.decls interface method) }
+    ensures { result.now ≡ name_of_method
+        (method_at (method_of schema.now.decls interface method)) }
 {
     match methods_at(schema, interface).get(method as usize) {
         Some(method) => method.name.0.as_str(),

@@ -13,14 +13,16 @@ use Rattle.stub_dispatch.specs.Unscripted.{not_scripted}
 use Rattle.stub_dispatch.specs.declared.answered.Answered.{Answered}
 use Rattle.wire_model.specs.Calls.{arguments}
 use Rattle.wire_model.specs.MetaStub.{MetaReceived, inner, own}
+use Rattle.wire_model.specs.MethodOf.{method_of}
 use Rattle.wire_model.specs.Receiver.{Received, left, called}
 use Rattle.wire_model.specs.Typed.{AreArguments, types_of}
 
 -- the answer to what a stub received
 abbrev pub AnswersReceived : List Decl → ℕ → Received → Answered → Type 0
-AnswersReceived S i (left m) a = a ≡ record { transport = pos 0; saw = None; reply = sent_reply S i m unread }
+AnswersReceived S i (left m) a =
+    a ≡ record { transport = pos 0; saw = None; reply = sent_reply (method_of S i m) unread }
 AnswersReceived S i (called m saw) a = (values : List Value) × (views values ≡ saw)
-    × (a ≡ record { transport = pos 0; saw = Some values; reply = sent_reply S i m not_scripted })
+    × (a ≡ record { transport = pos 0; saw = Some values; reply = sent_reply (method_of S i m) not_scripted })
 
 -- the answer to what a service received that answers for the version and the hash too
 abbrev pub IsAnswered : List Decl → ℕ → Result MetaReceived ℤ → Answered → Type 0
@@ -32,13 +34,13 @@ IsAnswered S i (Ok (inner received)) a = AnswersReceived S i received a
 abbrev pub IsSeenBy : List Decl → ℕ → ℕ → Option (List Value) → Type 0
 IsSeenBy S i code None = Unit {0}
 IsSeenBy S i code (Some values) = (m : ℕ) × (position_of_code (methods_at S i) code ≡ Some m)
-    × AreArguments S i m (views values)
+    × AreArguments (method_of S i m) (views values)
 
 -- what the handler saw, by the types of a method
 abbrev pub saw_of : List Decl → ℕ → Option ℕ → Option Items → List ℕ
 saw_of S i None saw = codes "null"
 saw_of S i (Some m) None = codes "null"
-saw_of S i (Some m) (Some saw) = values_text S (types_of (arguments S i m)) saw
+saw_of S i (Some m) (Some saw) = values_text S (types_of (arguments (method_of S i m))) saw
 
 -- the lines of an answer
 abbrev pub answered_text : List Decl → ℕ → ℕ → Answered → List ℕ

@@ -11,14 +11,14 @@ use Rattle.call_runner.specs.declared.line.RunFault.{RunFault}
 use Rattle.call_runner.specs.declared.line.RunFault.TheVariants.{LinkFault, OutOfMemory}
 use Rattle.call_runner.specs.Lines.{call_code, received, reply_entries, reply_sent, request_entry}
 use Rattle.call_runner.specs.steps.Served.{saw_at, transport_of}
-use Rattle.call_scripts.specs.Calls.{CallData}
+use Rattle.call_scripts.specs.Calls.{CallData, callee}
 use Rattle.wire_model.specs.Requests.{ArgsFit, request}
 
 -- a request of the call can be made
 pub record CanBeSent (A : List Decl) (c : CallData) : Type 0 where
   pub there : c.method < length (methods_at A c.interface)
-  pub args : ArgsFit A c.interface c.method c.args
-  pub small : length (request A c.interface c.method c.args) ≤ 1048576
+  pub args : ArgsFit (callee A c) c.args
+  pub small : length (request (callee A c) c.args) ≤ 1048576
 
 -- the carry of one parcel: its entry, or the log as it was
 abbrev pub AddsOne : Option (List Carried) → Option (List Carried) → Result Carried RunFault → Type 0

@@ -6,6 +6,7 @@ use Rattle.aidl_values.specs.Data.{Items}
 use Rattle.call_runner.specs.declared.line.Methods.{Methods}
 use Rattle.call_runner.specs.Lines.{LineData, refused, transport, oneway, done}
 use Rattle.call_runner.specs.Runs.{IsGotBy}
+use Rattle.wire_model.specs.MethodOf.{method_of}
 use Rattle.wire_model.specs.Receiver.{Received, left, called}
 use Rattle.wire_model.specs.Typed.{AreArguments}
 
@@ -16,7 +17,7 @@ method_in (called m saw) = m
 
 abbrev pub SeenBy : List Decl → Methods → Option Items → Type 0
 SeenBy B m None = Unit {0}
-SeenBy B m (Some saw) = AreArguments B m.server m.called saw
+SeenBy B m (Some saw) = AreArguments (method_of B m.server m.called) saw
 
 -- the same as of a line
 abbrev pub IsTypedLine : List Decl → List Decl → Option Methods → LineData → Type 0

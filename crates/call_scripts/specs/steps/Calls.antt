@@ -2,19 +2,20 @@
 use Rattle.std.specs.Prelude.{◌≡◌, ℕ, ◌≤◌, List, length, Option, option_map}
 use Rattle.aidl_schema.specs.declared.schema.Decl.{Decl}
 use Rattle.aidl_values.specs.Data.{Items}
+use Rattle.wire_model.specs.MethodOf.{MethodOf, method_of}
 use Rattle.wire_model.specs.Requests.{AnswerFits, ArgsFit, request}
 use Rattle.call_scripts.specs.declared.script.Target.{Target}
 use Rattle.call_scripts.specs.Calls.{TargetFits, target_of}
 
 -- arguments, whose request is small enough
-pub record IsSent (A : List Decl) (i m : ℕ) (args : Items) : Type 0 where
-  pub fit : ArgsFit A i m args
-  pub small : length (request A i m args) ≤ 1048576
+pub record IsSent (m : MethodOf) (args : Items) : Type 0 where
+  pub fit : ArgsFit m args
+  pub small : length (request m args) ≤ 1048576
 
 -- SERVER's method, and its answer
-pub record IsAnswered (B : List Decl) (j k : ℕ) (t : Target) : Type 0 where
-  pub method : t.method ≡ k
-  pub fits : AnswerFits B j k (target_of t).answer
+pub record IsAnswered (m : MethodOf) (t : Target) : Type 0 where
+  pub method : t.method ≡ m.method
+  pub fits : AnswerFits m (target_of t).answer
 
 -- SERVER's method where it has it, and its answer
 pub record IsTarget (B : List Decl) (server method : Option ℕ) (t : Option Target) : Type 0 where

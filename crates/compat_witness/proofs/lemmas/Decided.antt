@@ -19,6 +19,7 @@ use Rattle.aidl_values.specs.Data.{Data, null, truth, number, text, seq, rec, al
 use Rattle.aidl_values.specs.Fits.{Fits}
 use Rattle.aidl_values.specs.HasType.{FieldsHaveType, HasType, HaveType}
 use Rattle.wire_model.specs.Calls.{AnswerData, returned, exception, arguments, is_oneway, is_out, out_types, result_type}
+use Rattle.wire_model.specs.MethodOf.{MethodOf, method_of}
 use Rattle.wire_model.specs.Requests.{ArgsFit, ArgumentFits, ArgumentsFit, EachFits, ExceptionFits, IsAnswer, IsLength, ResultFits, service_specific, sum_of_lengths}
 use Rattle.compat_witness.specs.Candidates.{Candidate, Counts, Differs, IsAnswerAt, IsAnswerOf, Values, ValuesFit, answered, bytes_of, client_of, counterpart, fit_between, projected_side, read_side, server_of}
 use Rattle.compat_witness.specs.Candidates as candidate
@@ -135,10 +136,10 @@ module _ (S : List Decl) where
   arguments_fit (a ∷ xs) none = no (λ h. h)
   arguments_fit (a ∷ xs) (item v vs) = both_decided (argument_fits a v) (arguments_fit xs vs)
 
-  args_fit : (i m : ℕ) (args : Items) → Dec (ArgsFit S i m args)
+  args_fit : (i m : ℕ) (args : Items) → Dec (ArgsFit (method_of S i m) args)
   args_fit i m args =
       map_dec (λ h. record { each = h.0; few = h.1 }) (λ h. (h.each, h.few))
-      (both_decided (arguments_fit (arguments S i m) args) (dec_le (sum_of_lengths (arguments S i m) args) 65536))
+      (both_decided (arguments_fit (arguments (method_of S i m)) args) (dec_le (sum_of_lengths (arguments (method_of S i m)) args) 65536))
 
   -- Of the answer in a reply
 
@@ -161,23 +162,23 @@ exception_fits code message error =
     (both_decided (map_dec (int_fits error) (fits_int error) (is_true (is_in Int error))) (implied (is_false (int_eq code service_specific)) (ℤ_discrete error (pos 0)))))
 
 module _ (S : List Decl) (i m : ℕ) where
-  is_answer : (a : AnswerData) → Dec (IsAnswer S i m a)
-  is_answer (returned r outs) = both_decided (result_fits S (result_type S i m) r) (each_fits S (out_types S i m) outs)
+  is_answer : (a : AnswerData) → Dec (IsAnswer (method_of S i m) a)
+  is_answer (returned r outs) = both_decided (result_fits S (result_type (method_of S i m)) r) (each_fits S (out_types (method_of S i m)) outs)
   is_answer (exception code message error) = exception_fits code message error
 
-  is_answer_of : (a : Option AnswerData) → Dec (IsAnswerOf S i m a)
-  is_answer_of None = is_true (is_oneway S i m)
-  is_answer_of (Some a) = both_decided (is_false (is_oneway S i m)) (is_answer a)
+  is_answer_of : (a : Option AnswerData) → Dec (IsAnswerOf (method_of S i m) a)
+  is_answer_of None = is_true (is_oneway (method_of S i m))
+  is_answer_of (Some a) = both_decided (is_false (is_oneway (method_of S i m))) (is_answer a)
 
-is_answer_at : (S : List Decl) (q : Option (ℕ × ℕ)) (a : Option AnswerData) → Dec (IsAnswerAt S q a)
-is_answer_at S None a = no (λ h. h)
-is_answer_at S (Some q) a = is_answer_of S q.0 q.1 a
+is_answer_at : (found : Option MethodOf) (a : Option AnswerData) → Dec (IsAnswerAt found a)
+is_answer_at None a = no (λ h. h)
+is_answer_at (Some b) a = is_answer_of b.declarations b.interface b.method a
 
 -- Of a candidate
 
-values_fit : (A B : List Decl) (i m : ℕ) (values : Values) → Dec (fit_between A B i m values)
+values_fit : (A B : List Decl) (i m : ℕ) (values : Values) → Dec (fit_between (method_of A i m) B values)
 values_fit A B i m (candidate.arguments args) = args_fit A i m args
-values_fit A B i m (answered a) = is_answer_at B (counterpart A i m B) a
+values_fit A B i m (answered a) = is_answer_at (counterpart (method_of A i m) B) a
 
 module _ (old new : List Decl) (c : Candidate) where
   pub counts : Dec (Counts old new c)

@@ -16,7 +16,7 @@ use Rattle.call_runner.specs.declared.line.RunFault.{RunFault}
 use Rattle.call_runner.specs.declared.line.RunFault.TheVariants.{LinkFault, OutOfMemory}
 use Rattle.call_runner.specs.Lines.{LineData, refused, call_code, entries, line_of, received, reply_entries, reply_sent, reported, request_entry}
 use Rattle.call_runner.specs.Runs.{IsFirst, LineRuns, Stops, line_data, methods_by}
-use Rattle.call_scripts.specs.Calls.{CallData}
+use Rattle.call_scripts.specs.Calls.{CallData, callee}
 use Rattle.call_scripts.specs.Script.{script}
 use Rattle.run_command.specs.CallLines.{lines_of}
 use Rattle.run_command.specs.Running.{After, call_after, line_course, lines_course, piece, puts, reply_course, reply_parcel}
@@ -55,12 +55,12 @@ module _ (p : Profile) (A B : List Decl) (after : After) where
   module _ (c : CallData) (b r : List ℕ) where
     abbrev after_by : Option (List ℕ) → List ℕ → Course
     after_by sent reply = after (request_entry A c b ∷ reply_entries (call_code A c) sent reply) (methods_by c c.server (received p A B c b))
-        (reported (received p A B c b) sent (client p A c.interface c.method reply))
+        (reported (received p A B c b) sent (client p (callee A c) reply))
 
     -- where no reply is sent, none is looked at
     same_after : (sent : Option (List ℕ)) → sent ≡ None → after_by sent r ≡ after_by sent []
     same_after None e = ap (λ out. after (request_entry A c b ∷ []) (methods_by c c.server (received p A B c b)) out)
-        (same_report (received p A B c b) (client p A c.interface c.method r) (client p A c.interface c.method []))
+        (same_report (received p A B c b) (client p (callee A c) r) (client p (callee A c) []))
     same_after (Some sent) e = cc
 
     reply_comes : (sent : Option (List ℕ)) → (sent ≡ None → call_after p A B after c b r ≡ call_after p A B after c b [])

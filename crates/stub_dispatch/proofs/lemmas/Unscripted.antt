@@ -7,6 +7,7 @@ use Rattle.aidl_base.proofs.lemmas.Spelled.{length-spell_text}
 use Rattle.aidl_base.specs.Words.{units, word}
 use Rattle.aidl_schema.specs.declared.schema.Decl.{Decl}
 use Rattle.stub_dispatch.specs.Unscripted.{not_scripted}
+use Rattle.wire_model.specs.MethodOf.{method_of}
 use Rattle.wire_model.specs.Requests.{AnswerFits, ExceptionFits, spell_error}
 use Rattle.wire_model.specs.Spell.{spell_text}
 
@@ -26,5 +27,5 @@ unscripted_small message e =
 unscripted : ExceptionFits (negsuc 4) (codes "not scripted") (pos 0)
 unscripted = record { known = refl; scalars = refl; int = omega (arith, ints); no_error = λ e. refl }
 
-pub unscripted_fits : (S : List Decl) (i m : ℕ) → AnswerFits S i m not_scripted
+pub unscripted_fits : (S : List Decl) (i m : ℕ) → AnswerFits (method_of S i m) not_scripted
 unscripted_fits S i m = record { answer = unscripted; small = unscripted_small (codes "not scripted") refl }

@@ -14,6 +14,7 @@ use Rattle.aidl_base.specs.Spellings.{spell_text}
 use Rattle.aidl_base.specs.Words.{word, units}
 use Rattle.aidl_schema.specs.declared.schema.Decl.{Decl}
 use Rattle.wire_model.specs.Calls.{AnswerData, exception, result_type, out_types}
+use Rattle.wire_model.specs.MethodOf.{method_of}
 use Rattle.wire_model.specs.Receiver.{after_trace, error_at, exception_at, is_refused_status, status_at, whole, client}
 use Rattle.wire_model.specs.Requests.{service_specific, spell_error, reply, ExceptionFits}
 
@@ -63,13 +64,13 @@ exception_again p code message error fits small =
 
 -- what follows the status word
 abbrev pub then_status : Profile → List Decl → ℕ → ℕ → Read ℤ → Result AnswerData ℤ
-then_status p S i m x = x >>= λ status. status_at p S (result_type S i m) (out_types S i m) status.0 status.1 >>= λ a. whole a.0 a.1
+then_status p S i m x = x >>= λ status. status_at p S (result_type (method_of S i m)) (out_types (method_of S i m)) status.0 status.1 >>= λ a. whole a.0 a.1
 
 abbrev pub then_whole : Read AnswerData → Result AnswerData ℤ
 then_whole x = x >>= λ a. whole a.0 a.1
 
 module _ (p : Profile) (S : List Decl) (i m : ℕ) (B : List Decl) (j n : ℕ) (code : ℤ) (message : List ℕ) (error : ℤ) (fits : ExceptionFits code message error)
-    (small : length (reply B j n (exception code message error)) ≤ 1048576) where
+    (small : length (reply (method_of B j n) (exception code message error)) ≤ 1048576) where
   text_small : length (units message) ≤ 2147483647
   text_small = omega (
     arith,
@@ -79,12 +80,12 @@ module _ (p : Profile) (S : List Decl) (i m : ℕ) (B : List Decl) (j n : ℕ) (
   )
 
   -- The client of any method takes it.
-  pub exception_got : client p S i m (reply B j n (exception code message error)) ≡ Ok (exception code message error)
+  pub exception_got : client p (method_of S i m) (reply (method_of B j n) (exception code message error)) ≡ Ok (exception code message error)
   unfolding client
   exception_got =
       let is = is_code code fits.known in
       let some = is.some in
       let taken = is.taken in
       let rest = spell_text message ++ (word (pos 0) ++ spell_error code error) in
-      let status : status_at p S (result_type S i m) (out_types S i m) code rest ≡ Ok (exception code message error, []) = rw (some, taken) (exception_again p code message error fits text_small) in
+      let status : status_at p S (result_type (method_of S i m)) (out_types (method_of S i m)) code rest ≡ Ok (exception code message error, []) = rw (some, taken) (exception_again p code message error fits text_small) in
       ap (then_status p S i m) (word_again code false rest is.fits) ∙ ap then_whole status

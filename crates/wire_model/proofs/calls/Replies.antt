@@ -19,6 +19,7 @@ use Rattle.aidl_schema.specs.Same.{same_text}
 use Rattle.aidl_values.specs.Data.{Data, Items}
 use Rattle.aidl_values.specs.Sound.{IsSound}
 use Rattle.wire_model.specs.Calls.{AnswerData, returned, exception, name_of_decl, descriptor, method_at, arguments_of, result_of, result_type, outs_of, out_types}
+use Rattle.wire_model.specs.MethodOf.{method_of}
 use Rattle.wire_model.specs.Outcome.{declared_as, method_like, view_values, view_result, seen_answer}
 use Rattle.wire_model.specs.Receiver.{or_status, values_at, returned_at, client}
 use Rattle.wire_model.specs.Requests.{spell_each, spell_result, EachFits, ResultFits, reply, AnswerFits, IsAnswer}
@@ -72,49 +73,49 @@ module _ (p : Profile) (A B : List Decl) (meets : Meets B A) (sound : IsSound A)
     -- the method v of the interface d of A, and w of e of B
     module _ (d e : Decl) (here : slice_get A i ≡ Some d) (there : slice_get B j ≡ Some e) (named : same_name d e ≡ true)
         (v w : Method) (at : slice_get (methods_of d.kind) m ≡ Some v) (like : slice_get (methods_of e.kind) n ≡ Some w) (alike : same_method v w ≡ true) where
-      mine : method_at A i m ≡ Some v
+      mine : method_at (method_of A i m) ≡ Some v
       mine = ap (λ o. slice_get (methods_of_decl o) m) here ∙ at
 
-      his : method_at B j n ≡ Some w
+      his : method_at (method_of B j n) ≡ Some w
       his = ap (λ o. slice_get (methods_of_decl o) n) there ∙ like
 
       abbrev Law : AnswerData → Type 0
-      Law a = client p A i m (reply B j n a) ≡ seen_answer B j n A i m a
+      Law a = client p (method_of A i m) (reply (method_of B j n) a) ≡ seen_answer (method_of B j n) (method_of A i m) a
 
-      pub by_answer : (a : AnswerData) → IsAnswer B j n a → length (reply B j n a) ≤ 1048576 → AreBytes (reply B j n a) → Law a
+      pub by_answer : (a : AnswerData) → IsAnswer (method_of B j n) a → length (reply (method_of B j n) a) ≤ 1048576 → AreBytes (reply (method_of B j n) a) → Law a
       unfolding client
       by_answer (exception code message error) fits small bytes = exception_got p A i m B j n code message error fits small
       by_answer (returned r vs) fits small bytes =
           let agree = (calls e d (j, there) (i, here) (same_text_sym (name_of e) (name_of d) ∙ named)).common w v (n, like) (m, at) (same_text_sym w.name.0 v.name.0 ∙ alike) in
           let results = results_agree B A w.result v.result agree.result (result_is A holds d (i, here) v (m, at)) in
           let outs = outs_agree B A w.args v.args agree.arguments (argument_types A holds d (i, here) v (m, at)) in
-          let results' = subst (λ o. ResultsAgree B (result_of o) A (result_type A i m)) (sym his) (subst (λ o. ResultsAgree B w.result A (result_of o)) (sym mine) results) in
-          let outs' = subst (λ o. TypesAgree B (outs_of (arguments_of o)) A (out_types A i m)) (sym his) (subst (λ o. TypesAgree B (outs_of w.args) A (outs_of (arguments_of o))) (sym mine) outs) in
-          let spelled = spell_result B (result_type B j n) r ++ spell_each B (out_types B j n) vs in
+          let results' = subst (λ o. ResultsAgree B (result_of o) A (result_type (method_of A i m))) (sym his) (subst (λ o. ResultsAgree B w.result A (result_of o)) (sym mine) results) in
+          let outs' = subst (λ o. TypesAgree B (outs_of (arguments_of o)) A (out_types (method_of A i m))) (sym his) (subst (λ o. TypesAgree B (outs_of w.args) A (outs_of (arguments_of o))) (sym mine) outs) in
+          let spelled = spell_result B (result_type (method_of B j n)) r ++ spell_each B (out_types (method_of B j n)) vs in
           ap (then_status p A i m) (word_again (pos 0) false spelled (fits_pos 0 (omega arith)))
-          ∙ returned_seen (result_type B j n) (result_type A i m) (out_types B j n) (out_types A i m) results' outs' r vs fits.0 fits.1
+          ∙ returned_seen (result_type (method_of B j n)) (result_type (method_of A i m)) (out_types (method_of B j n)) (out_types (method_of A i m)) results' outs' r vs fits.0 fits.1
           (omega (arith, length-append (word (pos 0)) spelled)) (AreBytes-rest (word (pos 0)) spelled bytes)
 
     -- The client of the method of the same name.
-    pub reply_seen : (a : AnswerData) → AnswerFits B j n a → AreBytes (reply B j n a) → declared_as B (descriptor A i) ≡ Some j → method_like (method_at A i m) (methods_at B j) ≡ Some n
-        → client p A i m (reply B j n a) ≡ seen_answer B j n A i m a
+    pub reply_seen : (a : AnswerData) → AnswerFits (method_of B j n) a → AreBytes (reply (method_of B j n) a) → declared_as B (descriptor A i) ≡ Some j → method_like (method_at (method_of A i m)) (methods_at B j) ≡ Some n
+        → client p (method_of A i m) (reply (method_of B j n) a) ≡ seen_answer (method_of B j n) (method_of A i m) a
     reply_seen a fits bytes found like =
         let e = position_passes (λ (x : Decl). same_text (descriptor A i) (name_of x)) B j found in
         by_decl e.0 e.1 e.2 (slice_get A i) refl
       where
         by_decl : (e : Decl) → slice_get B j ≡ Some e → same_text (descriptor A i) (name_of e) ≡ true → (o : Option Decl) → slice_get A i ≡ o
-            → client p A i m (reply B j n a) ≡ seen_answer B j n A i m a
+            → client p (method_of A i m) (reply (method_of B j n) a) ≡ seen_answer (method_of B j n) (method_of A i m) a
         by_decl e there named None here =
             let none : ◌≡◌ {A = Option ℕ} None (Some n) = sym (ap (λ o. method_like (slice_get (methods_of_decl o) m) (methods_at B j)) here) ∙ like in cc
         by_decl e there named (Some d) here = by_method (slice_get (methods_of d.kind) m) refl
           where
-            by_method : (o : Option Method) → slice_get (methods_of d.kind) m ≡ o → client p A i m (reply B j n a) ≡ seen_answer B j n A i m a
+            by_method : (o : Option Method) → slice_get (methods_of d.kind) m ≡ o → client p (method_of A i m) (reply (method_of B j n) a) ≡ seen_answer (method_of B j n) (method_of A i m) a
             by_method None at =
                 let none : ◌≡◌ {A = Option ℕ} None (Some n) =
                 sym (ap (λ o. method_like o (methods_at B j)) (ap (λ o. slice_get (methods_of_decl o) m) here ∙ at)) ∙ like in cc
             by_method (Some v) at =
                 let is : position (λ w. same_method v w) (methods_of e.kind) ≡ Some n =
-                sym (ap (λ ws. method_like (method_at A i m) ws) (ap methods_of_decl there)
+                sym (ap (λ ws. method_like (method_at (method_of A i m)) ws) (ap methods_of_decl there)
                 ∙ ap (λ o. method_like o (methods_of e.kind)) (ap (λ o. slice_get (methods_of_decl o) m) here ∙ at)) ∙ like in
                 let w = position_passes (λ w. same_method v w) (methods_of e.kind) n is in
                 let same_names : same_name d e ≡ true = subst (λ x. same_text x (name_of e) ≡ true) (ap name_of_decl here) named in

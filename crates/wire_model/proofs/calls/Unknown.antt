@@ -18,6 +18,7 @@ use Rattle.wire_model.proofs.calls.Values.{ResultsAgree, TypesAgree}
 use Rattle.wire_model.proofs.lemmas.Lookups.{position_passes}
 use Rattle.wire_model.proofs.viewed.Unknown.{none_first, none_mapped, view_none}
 use Rattle.wire_model.specs.Calls.{arguments, arguments_of, descriptor, is_out, method_at, name_of_decl, out_types, outs_of, result_of, result_type}
+use Rattle.wire_model.specs.MethodOf.{method_of}
 use Rattle.wire_model.specs.Outcome.{declared_as, method_like, view_argument, view_arguments, view_result, view_values}
 use Rattle.wire_model.specs.Requests.{ArgumentFits, ArgumentsFit, EachFits, ResultFits}
 use Rattle.wire_model.specs.Unknown.{argument_has_unknown_tag, arguments_have_unknown_tag, has_unknown_tag, result_has_unknown_tag, values_have_unknown_tag}
@@ -59,17 +60,17 @@ module _ (A B : List Decl) (meets : Meets A B) where
 
 -- The method m of the client's interface i and the method n of the server's interface j, which have one name.
 pub record MethodsMeet (A B : List Decl) (i m j n : ℕ) : Type 0 where
-  pub sent : ArgumentsAgree A (arguments A i m) B (arguments B j n)
-  pub result : ResultsAgree B (result_type B j n) A (result_type A i m)
-  pub outs : TypesAgree B (out_types B j n) A (out_types A i m)
+  pub sent : ArgumentsAgree A (arguments (method_of A i m)) B (arguments (method_of B j n))
+  pub result : ResultsAgree B (result_type (method_of B j n)) A (result_type (method_of A i m))
+  pub outs : TypesAgree B (out_types (method_of B j n)) A (out_types (method_of A i m))
 
 module _ (A B : List Decl) (calls : CallsMeet A B) (back : CallsMeet B A) (holds : AllHold A) (i m j n : ℕ) where
   module _ (d e : Decl) (here : slice_get A i ≡ Some d) (there : slice_get B j ≡ Some e) (named : same_name d e ≡ true)
       (v w : Method) (at : slice_get (methods_of d.kind) m ≡ Some v) (like : slice_get (methods_of e.kind) n ≡ Some w) (alike : same_method v w ≡ true) where
-    mine : method_at A i m ≡ Some v
+    mine : method_at (method_of A i m) ≡ Some v
     mine = ap (λ o. slice_get (methods_of_decl o) m) here ∙ at
 
-    his : method_at B j n ≡ Some w
+    his : method_at (method_of B j n) ≡ Some w
     his = ap (λ o. slice_get (methods_of_decl o) n) there ∙ like
 
     methods_meet : MethodsMeet A B i m j n
@@ -79,12 +80,12 @@ module _ (A B : List Decl) (calls : CallsMeet A B) (back : CallsMeet B A) (holds
         let results = results_agree B A w.result v.result agree.result (result_is A holds d (i, here) v (m, at)) in
         let outs = outs_agree B A w.args v.args agree.arguments (argument_types A holds d (i, here) v (m, at)) in
         record {
-          sent = subst (λ o. ArgumentsAgree A (arguments A i m) B (arguments_of o)) (sym his) (subst (λ o. ArgumentsAgree A (arguments_of o) B w.args) (sym mine) sent.arguments);
-          result = subst (λ o. ResultsAgree B (result_of o) A (result_type A i m)) (sym his) (subst (λ o. ResultsAgree B w.result A (result_of o)) (sym mine) results);
-          outs = subst (λ o. TypesAgree B (outs_of (arguments_of o)) A (out_types A i m)) (sym his) (subst (λ o. TypesAgree B (outs_of w.args) A (outs_of (arguments_of o))) (sym mine) outs);
+          sent = subst (λ o. ArgumentsAgree A (arguments (method_of A i m)) B (arguments_of o)) (sym his) (subst (λ o. ArgumentsAgree A (arguments_of o) B w.args) (sym mine) sent.arguments);
+          result = subst (λ o. ResultsAgree B (result_of o) A (result_type (method_of A i m))) (sym his) (subst (λ o. ResultsAgree B w.result A (result_of o)) (sym mine) results);
+          outs = subst (λ o. TypesAgree B (outs_of (arguments_of o)) A (out_types (method_of A i m))) (sym his) (subst (λ o. TypesAgree B (outs_of w.args) A (outs_of (arguments_of o))) (sym mine) outs);
         }
 
-  pub meeting : declared_as B (descriptor A i) ≡ Some j → method_like (method_at A i m) (methods_at B j) ≡ Some n → MethodsMeet A B i m j n
+  pub meeting : declared_as B (descriptor A i) ≡ Some j → method_like (method_at (method_of A i m)) (methods_at B j) ≡ Some n → MethodsMeet A B i m j n
   meeting found like =
       let e = position_passes (λ (x : Decl). same_text (descriptor A i) (name_of x)) B j found in
       by_decl e.0 e.1 e.2 (slice_get A i) refl
@@ -100,7 +101,7 @@ module _ (A B : List Decl) (calls : CallsMeet A B) (back : CallsMeet B A) (holds
               sym (ap (λ o. method_like o (methods_at B j)) (ap (λ o. slice_get (methods_of_decl o) m) here ∙ at)) ∙ like in absurd cc
           by_method (Some v) at =
               let is : position (λ w. same_method v w) (methods_of e.kind) ≡ Some n =
-              sym (ap (λ ws. method_like (method_at A i m) ws) (ap methods_of_decl there)
+              sym (ap (λ ws. method_like (method_at (method_of A i m)) ws) (ap methods_of_decl there)
               ∙ ap (λ o. method_like o (methods_of e.kind)) (ap (λ o. slice_get (methods_of_decl o) m) here ∙ at)) ∙ like in
               let w = position_passes (λ w. same_method v w) (methods_of e.kind) n is in
               let same_names : same_name d e ≡ true = subst (λ x. same_text x (name_of e) ≡ true) (ap name_of_decl here) named in

@@ -10,6 +10,7 @@ use Rattle.aidl_schema.specs.Holds.{AllHold}
 use Rattle.aidl_schema.specs.Methods.{is_result_type}
 use Rattle.aidl_values.specs.Sound.{IsSound}
 use Rattle.wire_model.specs.Calls.{AnswerData, returned, exception, method_at, arguments, result_type, out_types}
+use Rattle.wire_model.specs.MethodOf.{method_of}
 use Rattle.wire_model.specs.Receiver.{values_at, result_at, returned_at, after_trace, error_at, exception_at, is_refused_status, status_at, whole, client}
 use Rattle.wire_model.specs.Status.{bad_value}
 use Rattle.wire_model.specs.Typed.{EachHasType, IsResult, IsGot}
@@ -56,25 +57,25 @@ module _ (p : Profile) (S : List Decl) (sound : IsSound S) (holds : AllHold S) w
   status_typed t ts w b x type types bytes false false fine is e = let read : exception_at p w b ≡ Ok x = rw (fine, is) at e in exception_given t ts w b x read
 
   -- What a client is given.
-  pub got_typed : (i m : ℕ) (b : List ℕ) (a : AnswerData) → AreBytes b → client p S i m b ≡ Ok a → IsGot S i m a
+  pub got_typed : (i m : ℕ) (b : List ℕ) (a : AnswerData) → AreBytes b → client p (method_of S i m) b ≡ Ok a → IsGot (method_of S i m) a
   unfolding client
   got_typed i m b a bytes e =
-      let t = result_type S i m in
-      let ts = out_types S i m in
-      let method = method_typed S holds i m (slice_get S i) refl (method_at S i m) refl in
+      let t = result_type (method_of S i m) in
+      let ts = out_types (method_of S i m) in
+      let method = method_typed S holds i m (slice_get S i) refl (method_at (method_of S i m)) refl in
       let one = taken (word_at false b) (λ status. status_at p S t ts status.0 status.1 >>= λ x. whole x.0 x.1) a e in
       let two = taken (status_at p S t ts one.0.0 one.0.1) (λ x. whole x.0 x.1) a one.2 in
-      let h = status_typed t ts one.0.0 one.0.1 two.0 method.1 (outs_typed S (arguments S i m) method.0) (word_bytes b one.0 bytes one.1)
+      let h = status_typed t ts one.0.0 one.0.1 two.0 method.1 (outs_typed S (arguments (method_of S i m)) method.0) (word_bytes b one.0 bytes one.1)
       (int_eq one.0.0 (pos 0)) (is_refused_status one.0.0) refl refl two.1 in
       same (by_rest two.0.0 two.0.1 two.2 h)
     where
-      by_rest : (x : AnswerData) (rest : List ℕ) → whole x rest ≡ Ok a → Given (result_type S i m) (out_types S i m) x → Given (result_type S i m) (out_types S i m) a
-      by_rest x [] e h = let one : x ≡ a = cc in subst (Given (result_type S i m) (out_types S i m)) one h
+      by_rest : (x : AnswerData) (rest : List ℕ) → whole x rest ≡ Ok a → Given (result_type (method_of S i m)) (out_types (method_of S i m)) x → Given (result_type (method_of S i m)) (out_types (method_of S i m)) a
+      by_rest x [] e h = let one : x ≡ a = cc in subst (Given (result_type (method_of S i m)) (out_types (method_of S i m))) one h
       by_rest x (y ∷ rest) e h = cc
 
-      same_by : (x : AnswerData) → Given (result_type S i m) (out_types S i m) x → IsGot S i m x
+      same_by : (x : AnswerData) → Given (result_type (method_of S i m)) (out_types (method_of S i m)) x → IsGot (method_of S i m) x
       same_by (returned r vs) h = h
       same_by (exception code message error) h = tt
 
-      same : Given (result_type S i m) (out_types S i m) a → IsGot S i m a
+      same : Given (result_type (method_of S i m)) (out_types (method_of S i m)) a → IsGot (method_of S i m) a
       same h = same_by a h

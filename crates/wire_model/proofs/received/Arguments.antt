@@ -15,6 +15,7 @@ use Rattle.aidl_values.specs.Data.{Data, Items, none, item}
 use Rattle.aidl_values.specs.HasType.{HasType, HaveType}
 use Rattle.aidl_values.specs.Sound.{IsSound}
 use Rattle.wire_model.specs.Calls.{descriptor, method_at, arguments, is_out}
+use Rattle.wire_model.specs.MethodOf.{method_of}
 use Rattle.wire_model.specs.ReadOf.{read_of}
 use Rattle.wire_model.specs.Receiver.{Received, called, received, or_status, zero_in, repeated, array_opening, within_sum, length_at, array_opening_at, argument_at, opened_length, arguments_at, token_at, stub}
 use Rattle.wire_model.specs.Status.{bad_value, unknown_transaction}
@@ -101,26 +102,26 @@ module _ (p : Profile) (S : List Decl) (sound : IsSound S) (holds : AllHold S) (
       joined p S sound a.ty (types_of xs) one.0.0 two.0.0 two.0.1 x two.2 first.0 (arguments_typed xs (sum + opened_length a one.0.0) one.0.1 two.0 types.1 first.1 two.1)
 
   -- What a handler is called with.
-  pub called_typed : (i code : ℕ) (b : List ℕ) (m : ℕ) (saw : Items) → AreBytes b → stub p S i code b ≡ Ok (called m saw) → (position_of_code (methods_at S i) code ≡ Some m) × AreArguments S i m saw
+  pub called_typed : (i code : ℕ) (b : List ℕ) (m : ℕ) (saw : Items) → AreBytes b → stub p S i code b ≡ Ok (called m saw) → (position_of_code (methods_at S i) code ≡ Some m) × AreArguments (method_of S i m) saw
   unfolding stub
   called_typed i code b m saw bytes e =
       let place = position_of_code (methods_at S i) code in
-      let one = taken (or_status unknown_transaction place) (λ n. token_at p (descriptor S i) b >>= λ rest. arguments_at p S 0 (arguments S i n) rest >>= λ x. let y : Result Received ℤ = Ok (received n x.0 x.1) in y) (called m saw) e in
+      let one = taken (or_status unknown_transaction place) (λ n. token_at p (descriptor S i) b >>= λ rest. arguments_at p S 0 (arguments (method_of S i n)) rest >>= λ x. let y : Result Received ℤ = Ok (received n x.0 x.1) in y) (called m saw) e in
       let n = one.0 in
-      let two = taken (token_at p (descriptor S i) b) (λ rest. arguments_at p S 0 (arguments S i n) rest >>= λ x. let y : Result Received ℤ = Ok (received n x.0 x.1) in y) (called m saw) one.2 in
-      let three = taken (arguments_at p S 0 (arguments S i n) two.0) (λ x. let y : Result Received ℤ = Ok (received n x.0 x.1) in y) (called m saw) two.2 in
-      let types = (method_typed S holds i n (slice_get S i) refl (method_at S i n) refl).0 in
-      let h = arguments_typed (arguments S i n) 0 two.0 three.0 types (token_bytes p (descriptor S i) b two.0 bytes two.1) three.1 in
+      let two = taken (token_at p (descriptor S i) b) (λ rest. arguments_at p S 0 (arguments (method_of S i n)) rest >>= λ x. let y : Result Received ℤ = Ok (received n x.0 x.1) in y) (called m saw) one.2 in
+      let three = taken (arguments_at p S 0 (arguments (method_of S i n)) two.0) (λ x. let y : Result Received ℤ = Ok (received n x.0 x.1) in y) (called m saw) two.2 in
+      let types = (method_typed S holds i n (slice_get S i) refl (method_at (method_of S i n)) refl).0 in
+      let h = arguments_typed (arguments (method_of S i n)) 0 two.0 three.0 types (token_bytes p (descriptor S i) b two.0 bytes two.1) three.1 in
       by_rest n three.0.0 three.0.1 three.2 (is_place place one.1) h
     where
       is_place : {n : ℕ} (o : Option ℕ) → or_status unknown_transaction o ≡ Ok n → o ≡ Some n
       is_place None e = cc
       is_place {n} (Some k) e = let one : k ≡ n = cc in ap (λ j. let o : Option ℕ = Some j in o) one
 
-      by_rest : (n : ℕ) (vs : Items) (rest : List ℕ) → ◌≡◌ {A = Result Received ℤ} (Ok (received n vs rest)) (Ok (called m saw)) → position_of_code (methods_at S i) code ≡ Some n → AreArguments S i n vs
-          → (position_of_code (methods_at S i) code ≡ Some m) × AreArguments S i m saw
+      by_rest : (n : ℕ) (vs : Items) (rest : List ℕ) → ◌≡◌ {A = Result Received ℤ} (Ok (received n vs rest)) (Ok (called m saw)) → position_of_code (methods_at S i) code ≡ Some n → AreArguments (method_of S i n) vs
+          → (position_of_code (methods_at S i) code ≡ Some m) × AreArguments (method_of S i m) saw
       by_rest n vs (y ∷ rest) e place h = cc
       by_rest n vs [] e place h =
           let one : n ≡ m = cc in
           let same : vs ≡ saw = cc in
-          (place ∙ ap (λ j. let o : Option ℕ = Some j in o) one, subst (AreArguments S i m) same (subst (λ k. AreArguments S i k vs) one h))
+          (place ∙ ap (λ j. let o : Option ℕ = Some j in o) one, subst (AreArguments (method_of S i m)) same (subst (λ k. AreArguments (method_of S i k) vs) one h))

@@ -16,6 +16,7 @@ use Rattle.aidl_values.specs.Data.{Data, Items, item}
 use Rattle.aidl_values.specs.HasType.{HasType}
 use Rattle.aidl_values.specs.Sound.{IsSound}
 use Rattle.wire_model.specs.Calls.{AnswerData, returned, exception, descriptor, method_at, arguments, result_type, out_types, is_out}
+use Rattle.wire_model.specs.MethodOf.{method_of}
 use Rattle.wire_model.specs.ReadOf.{read_as, text_data, read_of}
 use Rattle.wire_model.specs.Receiver.{Received, received, or_status, zero_in, array_opening, within_sum, length_at, array_opening_at, argument_at, opened_length, arguments_at, header_at, is_token, accepted, token_at, stub, values_at, result_at, returned_at, after_trace, error_at, exception_at, is_refused_status, status_at, whole, client}
 use Rattle.wire_model.specs.Requests.{service_specific}
@@ -135,15 +136,15 @@ module _ (p : Profile) (S : List Decl) (sound : IsSound S) (holds : AllHold S) w
   status_well t ts w b type types bytes false false fine is s e = let read : exception_at p w b ≡ Err s = rw (fine, is) at e in exception_well p w b bytes s read
 
   -- A reply is refused with a status of reading.
-  pub client_status : (i m : ℕ) (b : List ℕ) → AreBytes b → (s : ℤ) → client p S i m b ≡ Err s → IsStatus s
+  pub client_status : (i m : ℕ) (b : List ℕ) → AreBytes b → (s : ℤ) → client p (method_of S i m) b ≡ Err s → IsStatus s
   unfolding client
   client_status i m b bytes =
-      let t = result_type S i m in
-      let ts = out_types S i m in
-      let method = method_typed S holds i m (slice_get S i) refl (method_at S i m) refl in
+      let t = result_type (method_of S i m) in
+      let ts = out_types (method_of S i m) in
+      let method = method_typed S holds i m (slice_get S i) refl (method_at (method_of S i m)) refl in
       then_well (word_at false b) (λ status. status_at p S t ts status.0 status.1 >>= λ x. whole x.0 x.1) (word_well b)
       (λ status is. then_well (status_at p S t ts status.0 status.1) (λ x. whole x.0 x.1)
-      (status_well t ts status.0 status.1 method.1 (outs_typed S (arguments S i m) method.0) (word_bytes b status bytes is) (int_eq status.0 (pos 0)) (is_refused_status status.0) refl refl)
+      (status_well t ts status.0 status.1 method.1 (outs_typed S (arguments (method_of S i m)) method.0) (word_bytes b status bytes is) (int_eq status.0 (pos 0)) (is_refused_status status.0) refl refl)
       (λ x is'. whole_well x.0 x.1))
 
   module _ (elements : HasElements S) (typed : (t : AidlType) → is_type S t ≡ true → HasType S t (zero_in S t)) where
@@ -180,16 +181,16 @@ module _ (p : Profile) (S : List Decl) (sound : IsSound S) (holds : AllHold S) w
     pub stub_status : (i code : ℕ) (b : List ℕ) → AreBytes b → (s : ℤ) → stub p S i code b ≡ Err s → IsTransport s
     unfolding stub
     stub_status i code b bytes s e =
-        by_code (stopped (or_status unknown_transaction (position_of_code (methods_at S i) code)) (λ n. token_at p (descriptor S i) b >>= λ rest. arguments_at p S 0 (arguments S i n) rest >>= λ x. let y : Result Received ℤ = Ok (received n x.0 x.1) in y) s e)
+        by_code (stopped (or_status unknown_transaction (position_of_code (methods_at S i) code)) (λ n. token_at p (descriptor S i) b >>= λ rest. arguments_at p S 0 (arguments (method_of S i n)) rest >>= λ x. let y : Result Received ℤ = Ok (received n x.0 x.1) in y) s e)
       where
-        by_end : (n : ℕ) (rest : List ℕ) → AreBytes rest → Stopped (arguments_at p S 0 (arguments S i n) rest) (λ x. let y : Result Received ℤ = Ok (received n x.0 x.1) in y) s → IsTransport s
-        by_end n rest bytes (inl h) = inr (inr (arguments_well (arguments S i n) 0 rest (method_typed S holds i n (slice_get S i) refl (method_at S i n) refl).0 bytes s h))
+        by_end : (n : ℕ) (rest : List ℕ) → AreBytes rest → Stopped (arguments_at p S 0 (arguments (method_of S i n)) rest) (λ x. let y : Result Received ℤ = Ok (received n x.0 x.1) in y) s → IsTransport s
+        by_end n rest bytes (inl h) = inr (inr (arguments_well (arguments (method_of S i n)) 0 rest (method_typed S holds i n (slice_get S i) refl (method_at (method_of S i n)) refl).0 bytes s h))
         by_end n rest bytes (inr h) = let wrong = h.2 in cc
 
-        by_token : (n : ℕ) → Stopped (token_at p (descriptor S i) b) (λ rest. arguments_at p S 0 (arguments S i n) rest >>= λ x. let y : Result Received ℤ = Ok (received n x.0 x.1) in y) s → IsTransport s
+        by_token : (n : ℕ) → Stopped (token_at p (descriptor S i) b) (λ rest. arguments_at p S 0 (arguments (method_of S i n)) rest >>= λ x. let y : Result Received ℤ = Ok (received n x.0 x.1) in y) s → IsTransport s
         by_token n (inl h) = inr (inl (no_token (descriptor S i) (header_at p b) s h))
-        by_token n (inr h) = by_end n h.0 (token_bytes p (descriptor S i) b h.0 bytes h.1) (stopped (arguments_at p S 0 (arguments S i n) h.0) (λ x. let y : Result Received ℤ = Ok (received n x.0 x.1) in y) s h.2)
+        by_token n (inr h) = by_end n h.0 (token_bytes p (descriptor S i) b h.0 bytes h.1) (stopped (arguments_at p S 0 (arguments (method_of S i n)) h.0) (λ x. let y : Result Received ℤ = Ok (received n x.0 x.1) in y) s h.2)
 
-        by_code : Stopped (or_status unknown_transaction (position_of_code (methods_at S i) code)) (λ n. token_at p (descriptor S i) b >>= λ rest. arguments_at p S 0 (arguments S i n) rest >>= λ x. let y : Result Received ℤ = Ok (received n x.0 x.1) in y) s → IsTransport s
+        by_code : Stopped (or_status unknown_transaction (position_of_code (methods_at S i) code)) (λ n. token_at p (descriptor S i) b >>= λ rest. arguments_at p S 0 (arguments (method_of S i n)) rest >>= λ x. let y : Result Received ℤ = Ok (received n x.0 x.1) in y) s → IsTransport s
         by_code (inl h) = inl (no_method (position_of_code (methods_at S i) code) s h)
-        by_code (inr h) = by_token h.0 (stopped (token_at p (descriptor S i) b) (λ rest. arguments_at p S 0 (arguments S i h.0) rest >>= λ x. let y : Result Received ℤ = Ok (received h.0 x.0 x.1) in y) s h.2)
+        by_code (inr h) = by_token h.0 (stopped (token_at p (descriptor S i) b) (λ rest. arguments_at p S 0 (arguments (method_of S i h.0)) rest >>= λ x. let y : Result Received ℤ = Ok (received h.0 x.0 x.1) in y) s h.2)

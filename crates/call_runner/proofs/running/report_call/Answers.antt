@@ -11,6 +11,7 @@ use Rattle.call_runner.specs.declared.line.LineRun.{LineRun}
 use Rattle.call_runner.specs.declared.line.Methods.{Methods}
 use Rattle.call_scripts.specs.Calls.{CallData, call_of}
 use Rattle.wire_model.specs.Calls.{is_oneway}
+use Rattle.wire_model.specs.MethodOf.{method_of}
 use Rattle.wire_model.specs.Outcome.{OneFollows}
 use Rattle.call_runner.proofs.running.report_call.Goals as goal
 
@@ -19,7 +20,7 @@ report-requires-clause-two_way c = by_reply c.args.exchange.reply c.requires.exc
   where
     by_reply : (o : Option Carried) → listed o ≡ reply_entries (call_code c.args.client.now (call_of c.args.call.now))
         (reply_sent c.args.profile c.args.client.now c.args.server.now (call_of c.args.call.now) c.args.exchange.request.delivered) (delivered_of o)
-        → o ≢ None → is_oneway c.args.client.now c.args.call.now.interface c.args.call.now.method ≡ false
+        → o ≢ None → is_oneway (method_of c.args.client.now c.args.call.now.interface c.args.call.now.method) ≡ false
     by_reply None e ne = absurd (ne refl)
     by_reply (Some entry) e ne =
         let sent = reply_there _ _ (delivered_of (Some entry)) entry e in

@@ -13,7 +13,7 @@ returns c =
     let a = c.args.callee.now in
     let p = c.args.profile in
     let b = c.args.bytes.now in
-    IfOk-weaker c.receive_request.result (λ r. receipt_of r ≡ call_received p a.decls a.interface a.method b)
-    (λ r. (code : ℕ) → position_of_code (methods_at a.decls a.interface) code ≡ Some a.method → receipt_of r ≡ stub p a.decls a.interface code b)
-    (λ r h code found. h ∙ sym (stub_found p a.decls a.interface code a.method b found))
+    IfOk-weaker c.receive_request.result (λ r. receipt_of r ≡ call_received p a b)
+    (λ r. (code : ℕ) → position_of_code (methods_at a.declarations a.interface) code ≡ Some a.method → receipt_of r ≡ stub p a.declarations a.interface code b)
+    (λ r h code found. h ∙ sym (stub_found p a.declarations a.interface code a.method b found))
     c.receive_request.ensures

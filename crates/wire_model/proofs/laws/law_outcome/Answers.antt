@@ -2,6 +2,7 @@ use Rattle.std.proofs.Common.{◌≡◌, ◌≤◌, ℤ, length, Some, Result, O
 use Rattle.aidl_base.proofs.lemmas.Lists.{AreBytes}
 use Rattle.aidl_values.specs.View.{views}
 use Rattle.wire_model.specs.Calls.{answer_of, code_at, descriptor}
+use Rattle.wire_model.specs.MethodOf.{method_of}
 use Rattle.wire_model.specs.Outcome.{OneFollows, declared_as, received_call, Done, done, seen_answer}
 use Rattle.wire_model.specs.Receiver.{stub, client}
 use Rattle.wire_model.proofs.lemmas.calls.Outcomes.{turned, nowhere, refused, never_left, like, oneway_outcome, done_outcome}
@@ -21,8 +22,8 @@ returns c =
     let answer = answer_of c.args.answer.now in
     let sent : AreBytes c.args.sent.now = λ k. omega (arith, c.type_inv.sent k) in
     let replied : AreBytes c.args.replied.now = λ k. omega (arith, c.type_inv.replied k) in
-    let seen : OneFollows A B → declared_as B (descriptor A i) ≡ Some j → stub p B j (code_at A i m) c.args.sent.now ≡ received_call A i m B j args =
-    λ follows found. subst (λ b. stub p B j (code_at A i m) b ≡ received_call A i m B j args) (sym c.requires.spelled)
+    let seen : OneFollows A B → declared_as B (descriptor A i) ≡ Some j → stub p B j (code_at (method_of A i m)) c.args.sent.now ≡ received_call (method_of A i m) B j args =
+    λ follows found. subst (λ b. stub p B j (code_at (method_of A i m)) b ≡ received_call (method_of A i m) B j args) (sym c.requires.spelled)
     (request_seen p A B (c.law_meets.ensures follows) (c.law_calls_meet.ensures follows) c.law_sound-2.ensures c.law_valid-2.ensures.declarations i m j args c.requires.fits
     (subst (λ b. length b ≤ 1048576) c.requires.spelled c.requires.small) (subst AreBytes c.requires.spelled sent) found) in
     record {
@@ -32,8 +33,8 @@ returns c =
       common = λ follows found n saw e. like A i m B args answer j found n saw (sym (seen follows found) ∙ e);
       oneway = λ follows found n saw e one. oneway_outcome A i m B args answer j found n saw (sym (seen follows found) ∙ e) one;
       done = λ follows found n saw e two fits spelled.
-          let got : client p A i m c.args.replied.now ≡ seen_answer B j n A i m answer =
-          subst (λ b. client p A i m b ≡ seen_answer B j n A i m answer) (sym spelled)
+          let got : client p (method_of A i m) c.args.replied.now ≡ seen_answer (method_of B j n) (method_of A i m) answer =
+          subst (λ b. client p (method_of A i m) b ≡ seen_answer (method_of B j n) (method_of A i m) answer) (sym spelled)
           (reply_seen p A B (c.law_meets-2.ensures (turned A B follows)) c.law_sound.ensures (c.law_calls_meet-2.ensures (turned A B follows)) c.law_valid.ensures.declarations i m j n answer fits
           (subst AreBytes spelled replied) found (like A i m B args answer j found n saw (sym (seen follows found) ∙ e))) in
           done_outcome A i m B args answer j found n saw (sym (seen follows found) ∙ e) two

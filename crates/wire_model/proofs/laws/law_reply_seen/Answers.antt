@@ -1,6 +1,7 @@
 use Rattle.std.proofs.Common.{◌≡◌, sym, subst, arith}
 use Rattle.aidl_base.proofs.lemmas.Lists.{AreBytes}
 use Rattle.wire_model.specs.Calls.{answer_of}
+use Rattle.wire_model.specs.MethodOf.{method_of}
 use Rattle.wire_model.specs.Outcome.{seen_answer}
 use Rattle.wire_model.specs.Receiver.{client}
 use Rattle.wire_model.proofs.lemmas.calls.Outcomes.{turned}
@@ -17,6 +18,6 @@ returns c =
     let n = c.args.other_method in
     let answer = answer_of c.args.answer.now in
     let bytes : AreBytes c.args.bytes.now = λ k. omega (arith, c.type_inv.bytes k) in
-    subst (λ b. client c.args.profile A i m b ≡ seen_answer B j n A i m answer) (sym c.requires.spelled)
+    subst (λ b. client c.args.profile (method_of A i m) b ≡ seen_answer (method_of B j n) (method_of A i m) answer) (sym c.requires.spelled)
     (reply_seen c.args.profile A B (c.law_meets.ensures (turned A B c.requires.unbroken)) c.law_sound.ensures (c.law_calls_meet.ensures (turned A B c.requires.unbroken)) c.law_valid.ensures.declarations i m j n answer
     c.requires.fits (subst AreBytes c.requires.spelled bytes) c.requires.shared c.requires.common)

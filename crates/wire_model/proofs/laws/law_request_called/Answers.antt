@@ -2,6 +2,7 @@ use Rattle.std.proofs.Common.{inl, ◌≡◌, ◌≤◌, length, sym, ◌∙◌,
 use Rattle.aidl_base.proofs.lemmas.Lists.{AreBytes}
 use Rattle.aidl_values.specs.View.{views}
 use Rattle.wire_model.specs.Calls.{code_at}
+use Rattle.wire_model.specs.MethodOf.{method_of}
 use Rattle.wire_model.specs.Outcome.{received_call}
 use Rattle.wire_model.specs.Receiver.{stub}
 use Rattle.wire_model.proofs.lemmas.calls.Itself.{method_there, declared_itself, called_itself}
@@ -21,7 +22,7 @@ returns c =
     let apart = c.law_valid.ensures.apart in
     let bytes : AreBytes c.args.bytes.now = λ k. omega (arith, c.type_inv.bytes k) in
     let x = method_there S i m c.requires.there in
-    subst (λ b. stub c.args.profile S i (code_at S i m) b ≡ received_call S i m S i args) (sym c.requires.spelled)
+    subst (λ b. stub c.args.profile S i (code_at (method_of S i m)) b ≡ received_call (method_of S i m) S i args) (sym c.requires.spelled)
     (request_seen c.args.profile S S meets calls c.law_sound.ensures holds i m i args c.requires.fits
     (subst (λ b. length b ≤ 1048576) c.requires.spelled c.requires.small) (subst AreBytes c.requires.spelled bytes)
     (declared_itself S meets calls itself holds apart i m x.0 x.1 x.2 x.3))

@@ -14,6 +14,7 @@ use Rattle.aidl_schema.specs.Types.{is_type}
 use Rattle.aidl_values.specs.Data.{Data, Items, none, item}
 use Rattle.aidl_values.specs.Fits.{Fits}
 use Rattle.wire_model.specs.Calls.{AnswerData, returned, exception, name_of_decl, descriptor, method_at, arguments_of, arguments, result_of, result_type, outs_of, out_types, is_out}
+use Rattle.wire_model.specs.MethodOf.{method_of}
 use Rattle.wire_model.specs.Outcome.{declared_as, method_like, view_argument, view_arguments, seen_call, received_call, view_values, view_result, seen_answer}
 use Rattle.wire_model.specs.Receiver.{called, opening, opened_arguments}
 use Rattle.wire_model.specs.Requests.{sent_length, ArgumentFits, ArgumentsFit, EachFits, ResultFits, IsAnswer}
@@ -68,31 +69,31 @@ module _ (S : List Decl) (meets : Meets S S) (calls : CallsMeet S S) (itself : (
 
   -- the method v of the interface d
   module _ (i m : ℕ) (d : Decl) (here : slice_get S i ≡ Some d) (v : Method) (at : slice_get (methods_of d.kind) m ≡ Some v) where
-    mine : method_at S i m ≡ Some v
+    mine : method_at (method_of S i m) ≡ Some v
     mine = ap (λ o. slice_get (methods_of_decl o) m) here ∙ at
 
     pub declared_itself : declared_as S (descriptor S i) ≡ Some i
     declared_itself = ap (λ o. declared_as S (name_of_decl o)) here
         ∙ position_is (λ e. same_text (name_of d) (name_of e)) S i d here (same_text_refl (name_of d)) (λ k e p is. apart k i e d p here (sym (same_text_is (name_of d) (name_of e) is)))
 
-    pub like_itself : method_like (method_at S i m) (methods_at S i) ≡ Some m
-    like_itself = ap (λ ws. method_like (method_at S i m) ws) (ap methods_of_decl here) ∙ ap (λ o. method_like o (methods_of d.kind)) mine
+    pub like_itself : method_like (method_at (method_of S i m)) (methods_at S i) ≡ Some m
+    like_itself = ap (λ ws. method_like (method_at (method_of S i m)) ws) (ap methods_of_decl here) ∙ ap (λ o. method_like o (methods_of d.kind)) mine
         ∙ position_is (λ w. same_method v w) (methods_of d.kind) m v at (same_text_refl v.name.0)
         (λ k w p is. (holds i d here).methods k m w v p at (sym (same_text_is v.name.0 w.name.0 is)))
 
-    types : HaveTypes S (arguments S i m)
+    types : HaveTypes S (arguments (method_of S i m))
     types = subst (λ o. HaveTypes S (arguments_of o)) (sym mine) (argument_types S holds d (i, here) v (m, at))
 
-    pub called_itself : (args : Items) → ArgumentsFit S (arguments S i m) args → received_call S i m S i args ≡ Ok (called m (opened_arguments S (arguments S i m) args))
+    pub called_itself : (args : Items) → ArgumentsFit S (arguments (method_of S i m)) args → received_call (method_of S i m) S i args ≡ Ok (called m (opened_arguments S (arguments (method_of S i m)) args))
     unfolding seen_call
-    called_itself args fits = rw (like_itself, arguments_same (arguments S i m) args types fits) refl
+    called_itself args fits = rw (like_itself, arguments_same (arguments (method_of S i m)) args types fits) refl
 
-    pub got_itself : (a : AnswerData) → IsAnswer S i m a → seen_answer S i m S i m a ≡ Ok a
+    pub got_itself : (a : AnswerData) → IsAnswer (method_of S i m) a → seen_answer (method_of S i m) (method_of S i m) a ≡ Ok a
     got_itself (exception code message error) fits = refl
     got_itself (returned r vs) fits =
         let agree = (calls d d (i, here) (i, here) (same_text_refl (name_of d))).common v v (m, at) (m, at) (same_text_refl v.name.0) in
         let results = results_agree S S v.result v.result agree.result (result_is S holds d (i, here) v (m, at)) in
         let outs = outs_agree S S v.args v.args agree.arguments (argument_types S holds d (i, here) v (m, at)) in
-        let results' : ResultsAgree S (result_type S i m) S (result_type S i m) = subst (λ o. ResultsAgree S (result_of o) S (result_of o)) (sym mine) results in
-        let outs' : TypesAgree S (out_types S i m) S (out_types S i m) = subst (λ o. TypesAgree S (outs_of (arguments_of o)) S (outs_of (arguments_of o))) (sym mine) outs in
-        rw (result_same (result_type S i m) r results' fits.0, values_same (out_types S i m) vs outs' fits.1) refl
+        let results' : ResultsAgree S (result_type (method_of S i m)) S (result_type (method_of S i m)) = subst (λ o. ResultsAgree S (result_of o) S (result_of o)) (sym mine) results in
+        let outs' : TypesAgree S (out_types (method_of S i m)) S (out_types (method_of S i m)) = subst (λ o. TypesAgree S (outs_of (arguments_of o)) S (outs_of (arguments_of o))) (sym mine) outs in
+        rw (result_same (result_type (method_of S i m)) r results' fits.0, values_same (out_types (method_of S i m)) vs outs' fits.1) refl

@@ -9,13 +9,11 @@ use Rattle.witness_calls.proofs.requests.project_request.Goals as goal
 
 pub returns-in-Some : goal.returns-in-Some
 returns-in-Some c =
-    let A = c.args.client.now.decls in
-    let i = c.args.client.now.interface in
-    let m = c.args.client.now.method in
+    let a = c.args.client.now in
     let s = c.in-Some.target in
     let vs = views c.args.args.now in
-    IfOk-weaker c.project_called.result (λ r. reading_seen r ≡ side_of (called_at A i m s.decls s.interface s.method vs)) (λ r. reading_seen r ≡ projected_request A i m c.args.server.now vs)
-    (λ r e. called_there A i m c.args.server.now vs s (reading_seen r) c.in-Some.ensures e) c.project_called.ensures
+    IfOk-weaker c.project_called.result (λ r. reading_seen r ≡ side_of (called_at a s vs)) (λ r. reading_seen r ≡ projected_request a c.args.server.now vs)
+    (λ r e. called_there a.declarations a.interface a.method c.args.server.now vs s (reading_seen r) c.in-Some.ensures e) c.project_called.ensures
 
 pub returns-in-None : goal.returns-in-None
-returns-in-None c = nowhere_called _ _ _ _ _ c.in-None.ensures
+returns-in-None c = nowhere_called c.args.client.now.declarations c.args.client.now.interface c.args.client.now.method c.args.server.now (views c.args.args.now) c.in-None.ensures

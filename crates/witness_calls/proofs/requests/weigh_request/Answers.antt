@@ -6,10 +6,8 @@ use Rattle.witness_calls.proofs.requests.weigh_request.Goals as goal
 
 pub returns : goal.returns
 returns c =
-    let A = c.args.client.now.decls in
-    let i = c.args.client.now.interface in
-    let m = c.args.client.now.method in
+    let a = c.args.client.now in
     let B = c.args.server.now in
     let vs = views c.args.args.now in
-    weighed (ArgsFit A i m vs) (request A i m vs) c.in_ok-bytes.field-0 c.in-Some.bytes c.as_slice.result.now (λ b. read_request A i m B b) (projected_request A i m B vs)
+    weighed (ArgsFit a vs) (request a vs) c.in_ok-bytes.field-0 c.in-Some.bytes c.as_slice.result.now (λ b. read_request a B b) (projected_request a B vs)
     c.in_ok-read.read c.in_ok-projected.projected c.in_ok-bytes.ensures c.in-Some.is c.as_slice.ensures c.in_ok-read.ensures c.in_ok-projected.ensures

@@ -1,4 +1,4 @@
-use Rattle.std.proofs.Common.{◌≡◌, length, ap, arith}
+use Rattle.std.proofs.Common.{length, ap, arith}
 use Rattle.witness_calls.specs.Seen.{call_seen}
 use Rattle.witness_calls.proofs.Shown.{none_tried, nothing_named}
 use Rattle.witness_calls.proofs.showing.try_between.Goals as goal
