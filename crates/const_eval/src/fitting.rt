@@ -18,12 +18,5 @@ pub fn fit_value(
     ensures value { Answers (λ c. c) result (meant.fitted wanted named (seen operand.entry)) }
     ensures held { IfOk result (λ c. IsTrue (is_held wanted c)) }
 {
-    match operand {
-        Operand::Character(code) => fit(alloc, wanted, named, Operand::Character(code)),
-        Operand::Truth(b) => fit(alloc, wanted, named, Operand::Truth(b)),
-        Operand::Number { width, value } => {
-            fit(alloc, wanted, named, Operand::Number { width, value })
-        }
-        Operand::Text(words) => fit(alloc, wanted, named, Operand::Text(words)),
-    }
+    fit(alloc, wanted, named, operand)
 }

@@ -148,16 +148,13 @@ fn read_behind(
     ensures found { IfOk result (λ read. read.1
         ≡ count_by (is_found (members_view members.now.entries)) fields.now) }
 {
-    let first = values.len();
+    let mut i = values.len();
     let defaults = reader.default_values(base)?;
     let mut given = Given::first(reader.alloc(), values)?;
-    for i in first..fields.len() {
-        if are_done(&given, members, &defaults, levels) {
-            let found = given.len();
-            return Ok((given.into_record(reader.alloc(), &defaults)?, found));
-        }
+    while i < fields.len() && !are_done(&given, members, &defaults, levels) {
         let value = read_field(reader, levels, &fields[i], members, i, &defaults)?;
         given.put(i, value)?;
+        i += 1;
     }
     let found = given.len();
     Ok((given.into_record(reader.alloc(), &defaults)?, found))

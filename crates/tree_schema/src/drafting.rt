@@ -7,7 +7,7 @@ ghost use Rattle.aidl_syntax.specs.Sources.{source_of};
 ghost use Rattle.const_items.specs.Items.{items};
 ghost use Rattle.const_items.specs.ItemViews.{item_of};
 ghost use Rattle.const_eval.specs.Outcomes.{outcome_at};
-ghost use Rattle.tree_schema.specs.Numbers.{number_of};
+ghost use Rattle.tree_schema.specs.Numbers.{number_of, sorted};
 ghost use Rattle.tree_schema.specs.SchemaOf as meant;
 ghost use Rattle.tree_schema.specs.TreeViews.{numbered_of};
 
@@ -39,9 +39,27 @@ pub fn draft(
     law_accepted(names);
     let order = in_schema_order(alloc, names.decls())?;
     let numbers = numbers_of(alloc, order.as_slice())?;
+    declarations_in(alloc, names, settled, &numbers, order.as_slice())
+}
+
+// The declarations of a tree, in the order in which they are given.
+fn declarations_in(
+    alloc: Global,
+    names: &Names<'_>,
+    settled: &Settled<'_>,
+    numbers: &IndexMap<u32, u32>,
+    order: &[Placed<'_, '_>],
+) -> Result<Row<Decl>, OutOfMemory>
+    requires items { map item_of settled.now.items.list.items ≡ items (map source_of names.now) }
+    requires numbers { (n : ℕ) → get nat_eq numbers.now n
+        ≡ number_of (declarations (map source_of names.now)) n }
+    requires order { map numbered_of order.now ≡ sorted (declarations (map source_of names.now)) }
+    ensures { IfOk result (λ decls. decls ≡ map (meant.declared (map source_of names.now)
+        (outcome_at settled.now.outcomes.items)) (map numbered_of order.now)) }
+{
     let mut decls = Vec::with_capacity(alloc, order.len())?;
-    for placed in order.as_slice() {
-        decls.push(declaration_of(alloc, names, settled, &numbers, placed)?)?;
+    for placed in order {
+        decls.push(declaration_of(alloc, names, settled, numbers, placed)?)?;
     }
     Ok(Row::from_vec(decls))
 }

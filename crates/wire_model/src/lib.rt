@@ -2,10 +2,11 @@
 //!
 //! Of values: `Spell` (the bytes that spell a value), `Reads` (which bytes are a reading of which value), `Stop` (which bytes
 //! begin no reading, and with which status), `ReadOf`, reading as one plain function, `View` (what a value is to another
-//! version of its type), `SeenAs` (the same as a relation) and `Unknown` (the tags for which it is nothing there). Of calls: `Requests` (the bytes of a request
-//! and of a reply), `Receiver` (what a stub and a client make of bytes), `MetaStub` (what a stub does that also answers for a
-//! version and a hash), `Typed` (which types that has) and `Outcome` (what comes of a call between two versions). The types
-//! that they speak of are exported again, and `Terms` has the words of the crates below that they use.
+//! version of its type), `SeenAs` (the same as a relation) and `Unknown` (the tags for which it is nothing there). Of calls:
+//! `MethodOf` (a method of an interface among declarations), `Requests` (the bytes of a request and of a reply), `Receiver`
+//! (what a stub and a client make of bytes), `MetaStub` (what a stub does that also answers for a version and a hash), `Typed`
+//! (which types that has) and `Outcome` (what comes of a call between two versions). The types that they speak of are exported
+//! again, and `Terms` has the words of the crates below that they use.
 #![tactic(auto)]
 
 mod depth;

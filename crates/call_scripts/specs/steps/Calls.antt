@@ -2,7 +2,7 @@
 use Rattle.std.specs.Prelude.{◌≡◌, ℕ, ◌≤◌, List, length, Option, option_map}
 use Rattle.aidl_schema.specs.declared.schema.Decl.{Decl}
 use Rattle.aidl_values.specs.Data.{Items}
-use Rattle.wire_model.specs.MethodOf.{MethodOf, method_of}
+use Rattle.wire_model.specs.MethodOf.{MethodOf}
 use Rattle.wire_model.specs.Requests.{AnswerFits, ArgsFit, request}
 use Rattle.call_scripts.specs.declared.script.Target.{Target}
 use Rattle.call_scripts.specs.Calls.{TargetFits, target_of}

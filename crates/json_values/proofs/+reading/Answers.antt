@@ -2,7 +2,7 @@ use Rattle.std.proofs.Common.{◌≡◌, ◌+◌, ◌≤◌, to_z, of_z, cond, d
 use Rattle.std.specs.Prelude.{IfSome}
 use Rattle.std.specs.Int.{w64}
 use Rattle.std.specs.List.{count_by, range_with_len}
-use Rattle.std.proofs.lemmas.List.{length-map}
+use Rattle.std.proofs.lemmas.List.{length-map, take_all}
 use Rattle.std.proofs.lemmas.Grind.{common_steps}
 use Rattle.std.proofs.lemmas.Option.{slice_get_read}
 use Rattle.serde_json.specs.Data as json
@@ -28,6 +28,7 @@ use Rattle.json_values.specs.Refusal.{Answer, within}
 use Rattle.json_writing.specs.Named.{fields_in}
 use Rattle.aidl_schema.specs.Holds.{AreApart}
 use Rattle.json_values.proofs.+reading.Goals as goal
+use Rattle.json_values.proofs.+reading.Goals.{records::read_behind-then-loop-i-test+else-not-are_done, records::read_behind-else-loop-i-test}
 use Rattle.json_values.proofs.Behind.{all_read, begins, one_more}
 use Rattle.json_values.proofs.Counted.{all_found, found_more, missing_behind}
 use Rattle.json_values.proofs.Missing.{are_of, default_at, shared}
@@ -115,10 +116,10 @@ records::read_behind-loop-i-init t c =
     let are : AreDefaults S fs defaults = are_of S c.args.base fs defaults c.requires.declared c.in_ok-defaults.ensures.row in
     let many : length ds ≡ length fs = ap length are.0 ∙ length-map fs (initial_in S) in
     let vs = c.args.values.items in
-    let is : c.len-first.result ≡ length vs = omega (arith, c.len-first.ensures) in
+    let is : c.len-i.result ≡ length vs = omega (arith, c.len-i.ensures) in
     let given = c.in_ok-given.given in
     let made : (given.places ≡ range_with_len 0 (length vs)) × (given.values.items ≡ vs) = c.in_ok-given.ensures in
-    let start = begins vs given ds c.len-first.result (λ k. fields_from (λ f. default_of S d f) (λ u j. part_from S d u j) (drop k fs) (λ key. get_member key ms)) (fields_from (λ f. default_of S d f) (λ u j. part_from S d u j) fs (λ key. get_member key ms))
+    let start = begins vs given ds c.len-i.result (λ k. fields_from (λ f. default_of S d f) (λ u j. part_from S d u j) (drop k fs) (λ key. get_member key ms)) (fields_from (λ f. default_of S d f) (λ u j. part_from S d u j) fs (λ key. get_member key ms))
     made.0 made.1 is (omega (arith, many, c.requires.some)) c.requires.read in
     record {
       read = start.0;
@@ -126,34 +127,6 @@ records::read_behind-loop-i-init t c =
       found = ap length made.1 ∙ c.requires.found ∙ ap (λ k. count_by (is_found ms) (take k fs)) (sym is);
       same = c.default_values.ensures.same;
     }
-
-pub records::read_behind-returns-then-are_done-clause-gives : goal.records::read_behind-returns-then-are_done-clause-gives
-records::read_behind-returns-then-are_done-clause-gives t c =
-    let S = c.args.reader.now in
-    let d = c.args.levels in
-    let fs = c.args.fields.now in
-    let ms = members_view c.args.members.now.entries in
-    let defaults = c.in_ok-defaults.defaults.value in
-    let ds = datas_of defaults in
-    let are : AreDefaults S fs defaults = are_of S c.args.base fs defaults c.requires.declared c.in_ok-defaults.ensures.row in
-    let done = c.are_done.ensures c.if-are_done.true in
-    let i = c.loop-i.i in
-    let all : members_len ms ≤ count_by (is_found ms) (take i fs) = omega (arith, done.0, c.loop-i.invariant.found) in
-    let seen_over : view c.in_ok-into_record.field-0 ≡ rec (items_of (filled c.loop-i.given (datas_of c.deref-then-are_done.result.now))) = c.in_ok-into_record.ensures in
-    shared S d (λ u j. part_from S d u j) ms fs i c.loop-i.given ds (fields_from (λ f. default_of S d f) (λ u j. part_from S d u j) fs (λ key. get_member key ms)) c.loop-i.invariant.given (omega arith) are.0
-    (missing_behind fs c.requires.apart ms i all) (subst (λ (x : Defaults). depth_of (rec (items_of (datas_of x))) ≤ d) c.deref.ensures done.1) c.loop-i.invariant.read
-    ∙ ap Ok (sym (seen_over ∙ ap (λ (x : Defaults). rec (items_of (filled c.loop-i.given (datas_of x)))) c.deref-then-are_done.ensures))
-
-pub records::read_behind-returns-then-are_done-clause-found : goal.records::read_behind-returns-then-are_done-clause-found
-records::read_behind-returns-then-are_done-clause-found t c =
-    let S = c.args.reader.now in
-    let d = c.args.levels in
-    let fs = c.args.fields.now in
-    let ms = members_view c.args.members.now.entries in
-    let done = c.are_done.ensures c.if-are_done.true in
-    let i = c.loop-i.i in
-    let all : members_len ms ≤ count_by (is_found ms) (take i fs) = omega (arith, done.0, c.loop-i.invariant.found) in
-    c.len-found.ensures ∙ c.loop-i.invariant.found ∙ all_found fs c.requires.apart ms i all
 
 pub records::read_behind-read_field-requires : goal.records::read_behind-read_field-requires
 records::read_behind-read_field-requires t c =
@@ -211,9 +184,32 @@ records::read_behind-returns-clause-gives t c =
     let ds = datas_of defaults in
     let are : AreDefaults S fs defaults = are_of S c.args.base fs defaults c.requires.declared c.in_ok-defaults.ensures.row in
     let many : length ds ≡ length fs = ap length are.0 ∙ length-map fs (initial_in S) in
-    let seen_over : view c.in_ok-into_record-2.field-0 ≡ rec (items_of (filled c.loop-i.given (datas_of c.deref-2.result.now))) = c.in_ok-into_record-2.ensures in
-    all_read (λ f. default_of S d f) (λ u j. part_from S d u j) ms fs c.loop-i.i c.loop-i.given ds (fields_from (λ f. default_of S d f) (λ u j. part_from S d u j) fs (λ key. get_member key ms)) (omega arith) many c.loop-i.invariant.read
-    ∙ ap Ok (sym (seen_over ∙ ap (λ (x : Defaults). rec (items_of (filled c.loop-i.given (datas_of x)))) c.deref-2.ensures))
+    let i = c.loop-i.i in
+    let whole = fields_from (λ f. default_of S d f) (λ u j. part_from S d u j) fs (λ key. get_member key ms) in
+    let seen_over : view c.in_ok-into_record.field-0 ≡ rec (items_of (filled c.loop-i.given (datas_of c.deref-2.result.now))) = c.in_ok-into_record.ensures in
+    let all : as_record whole ≡ Ok (rec (items_of (filled c.loop-i.given ds))) = elim c.loop-i-test.branch [
+      | records::read_behind-then-loop-i-test+else-not-are_done w ↦
+          let done = w.are_done.ensures w.if-not-are_done.false in
+          let found : members_len ms ≤ count_by (is_found ms) (take i fs) = omega (arith, done.0, c.loop-i.invariant.found) in
+          shared S d (λ u j. part_from S d u j) ms fs i c.loop-i.given ds whole c.loop-i.invariant.given (omega arith) are.0
+          (missing_behind fs c.requires.apart ms i found) (subst (λ (x : Defaults). depth_of (rec (items_of (datas_of x))) ≤ d) w.deref.ensures done.1) c.loop-i.invariant.read
+      | records::read_behind-else-loop-i-test w ↦
+          all_read (λ f. default_of S d f) (λ u j. part_from S d u j) ms fs i c.loop-i.given ds whole w.loop-i-test.false many c.loop-i.invariant.read
+    ] in
+    all ∙ ap Ok (sym (seen_over ∙ ap (λ (x : Defaults). rec (items_of (filled c.loop-i.given (datas_of x)))) c.deref-2.ensures))
+
+pub records::read_behind-returns-clause-found : goal.records::read_behind-returns-clause-found
+records::read_behind-returns-clause-found t c =
+    let fs = c.args.fields.now in
+    let ms = members_view c.args.members.now.entries in
+    let i = c.loop-i.i in
+    let all : count_by (is_found ms) (take i fs) ≡ count_by (is_found ms) fs = elim c.loop-i-test.branch [
+      | records::read_behind-then-loop-i-test+else-not-are_done w ↦
+          let done = w.are_done.ensures w.if-not-are_done.false in
+          all_found fs c.requires.apart ms i (omega (arith, done.0, c.loop-i.invariant.found))
+      | records::read_behind-else-loop-i-test w ↦ ap (count_by (is_found ms)) (take_all i fs w.loop-i-test.false)
+    ] in
+    c.len-found.ensures ∙ c.loop-i.invariant.found ∙ all
 
 pub reading::read_one-read_record-requires : goal.reading::read_one-read_record-requires
 reading::read_one-read_record-requires t c =

@@ -1,4 +1,4 @@
-use Rattle.std.proofs.Common.{◌≡◌, ◌+◌, ◌*◌, drop, length, map, take}
+use Rattle.std.proofs.Common.{◌≡◌, ◌+◌, ◌*◌, ◌-◌, drop, length, map, take}
 use Rattle.std.specs.List.{count_by}
 use Rattle.serde_json.specs.Find.{get_member}
 use Rattle.serde_json.specs.View.{items_view, members_view}
@@ -79,6 +79,9 @@ invariant-records::read_behind-loop-i l = record {
   found : length l.given.values.items ≡ count_by (is_found (members_view l.members.entries)) (take l.i l.fields);
   same : l.reader ≡ l.fn.reader;
 }
+
+abbrev pub decreases-records::read_behind-loop-i : goal.decreases-records::read_behind-loop-i
+decreases-records::read_behind-loop-i l = length l.fields - l.i
 
 abbrev pub decreases-sequences::read_elements : goal.decreases-sequences::read_elements
 decreases-sequences::read_elements l = 10 * l.levels + 4
