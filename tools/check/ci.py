@@ -1,4 +1,4 @@
-"""Tries examples/ci/check-api and examples/ci/lines in scratch git repositories: a frozen version that is rewritten, deleted or added, a job before
+"""Tries ci/check-api and ci/lines in scratch git repositories: a frozen version that is rewritten, deleted or added, a job before
 the first freeze, without Python, through a link, copied alone; the annotations; the phrases; and that each change which docs/EVOLUTION.md names in its
 column *Instead* is one that `judge` accepts. A line for each case, and how many came out as said; exit 1 if one didn't.
 
@@ -6,18 +6,18 @@ python3 tools/check/ci.py [PROGRAM]      PROGRAM is crates/aidl/out/aidl if none
 """
 
 import hashlib
+import json
 import os
 import pathlib
 import re
-import runpy
 import shutil
 import subprocess
 import sys
 import tempfile
 
 TOP = pathlib.Path(__file__).resolve().parent.parent.parent
-JOB = TOP / "examples/ci/check-api"
-LINES = TOP / "examples/ci/lines"
+JOB = TOP / "ci/check-api"
+LINES = TOP / "ci/lines"
 LIGHTS = TOP / "examples/lights"
 GIT = ["git", "-c", "user.name=a", "-c", "user.email=a@example.org", "-c", "commit.gpgsign=false"]
 WAITS = 60  # seconds for one job
@@ -283,9 +283,9 @@ def filtered(text, *options):
 
 def of_lines():
     """What `lines` makes of lines, and that it has a phrase for each rule."""
-    path = "examples/ci/wide/home/Lamp.aidl"
+    path = "examples/wide/home/Lamp.aidl"
     fault = f"{path}:120: lex 4 BadNumber\n"
-    other = "yes\nC20 x.P\nC1\nok 4 types\n\\ \x01\r\n[\"C1 a\"]\nnone.aidl:3: syntax\n"
+    other = "yes\nC20 x.P\nC1\nok 4 types\n\\ \x01\r\n[\"C1 a\"]\n"
     for options in ((), ("--words",), ("--words", "--github")):
         came = filtered(other, *options)
         yield f"lines {' '.join(options)} leaves other lines", came[1] == other, came
@@ -294,13 +294,14 @@ def of_lines():
     came = filtered(fault, "--words")
     yield "a fault's source", came[1].splitlines()[1:] == ["    | /* gr\u00f6\u00dfer als 0 */ int level = 08;"], came
     came = filtered(fault + "C4 x.I.f\n> C3 x.I/0\n", "--words", "--github")
-    wanted = [f"::error file={path},line=5,col=36::lex 4 BadNumber", "::error::C4 x.I.f (transaction code changed)"]
+    wanted = [f"::error file={path},line=5,col=36::lex 4 BadNumber (digits and letters that are no number)", "::error::C4 x.I.f (transaction code changed)"]
     yield "annotations of lines", [line for line in came[1].splitlines() if line.startswith("::")][:2] == wanted, came
     came = filtered("C4 x\n", "--word")
-    yield "an option that isn't there", came[0] == 1 and not came[1], came
-    phrases = runpy.run_path(str(LINES))["PHRASES"]
+    yield "an option that isn't there", came[0] == 2 and not came[1], came
+    table = json.loads((TOP / "ci/aidl_ci/rules.json").read_text(encoding="utf-8"))
+    phrases = {code: rule["phrase"] for code, rule in table.items() if code[0] in "CE"}
     rules = [f"C{number}" for number in range(1, 20)] + [f"E{number}" for number in range(1, 25)]
-    fits = list(phrases) == rules and all(0 < len(text.split()) <= 9 for text in phrases.values()) and len(set(phrases.values())) == 43
+    fits = sorted(phrases) == sorted(rules) and all(0 < len(text.split()) <= 9 for text in phrases.values()) and len(set(phrases.values())) == 43
     yield "a phrase for each of 43 rules", fits, phrases
 
 

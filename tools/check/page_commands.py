@@ -32,7 +32,8 @@ def commands(text):
 
 def furnish(room, program):
     """Makes the folder in which the commands of a page run."""
-    shutil.copytree(TOP / "examples", room / "examples")
+    for name in ("ci", "examples"):
+        shutil.copytree(TOP / name, room / name)
     for name in ("aidl", "crates.txt", "HANDLES"):
         shutil.copy(TOP / name, room)
     for crate in re.findall(r"^(\w+):", (room / "crates.txt").read_text(), re.M):
