@@ -110,7 +110,7 @@ def completions(at: pathlib.Path):
     yield "bash completes an option", came.stdout == "--lenient\n", came
     came = run("fish", "-c", f"source '{share}/fish/vendor_completions.d/{name}.fish'; complete -C '{name} ver'; complete -C '{name} decode --len'")
     yield "fish completes both", came.stdout.startswith("verify\t") and came.stdout.endswith("--lenient\n"), came
-    shell = "_describe() { print -l $commands }; compadd() { print -l $* }; _files() { print files }; words=({words}); CURRENT={at}; source '{file}'"
+    shell = "_describe() { print -l $subcommands }; compadd() { print -l $* }; _files() { print files }; words=({words}); CURRENT={at}; source '{file}'"
     file = share / f"zsh/vendor-completions/_{name}"
     came = run("zsh", "-fc", shell.replace("{words}", f"{name} ver").replace("{at}", "2").replace("{file}", str(file)))
     yield "zsh lists fourteen commands", len(came.stdout.splitlines()) == 14 and "verify:" in came.stdout, came

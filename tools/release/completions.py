@@ -39,11 +39,11 @@ def zsh(name: str, rows: list[Command]) -> str:
     described = "\n".join(f"    '{one.name}:{plain(one.does).replace(chr(39), '')}'" for one in rows)
     cases = "\n".join(f"        {one.name}) compadd -- {' '.join(one.options())} ;;" for one in rows if one.options())
     return f"""#compdef {name}
-local -a commands=(
+local -a subcommands=(
 {described}
 )
 if (( CURRENT == 2 )); then
-    _describe command commands
+    _describe command subcommands
 elif [[ $words[CURRENT] == -* ]]; then
     case $words[2] in
 {cases}
