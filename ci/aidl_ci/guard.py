@@ -7,6 +7,8 @@ import os
 import sys
 from typing import Callable, NoReturn
 
+from .printing import plain
+
 FAULT = 2
 
 
@@ -50,7 +52,7 @@ def arguments(name: str, description: str) -> argparse.ArgumentParser:
 def complain(text: str) -> None:
     """Says a line on standard error, if it can be written to."""
     try:
-        print(text.encode("utf-8", "backslashreplace").decode(), file=sys.stderr, flush=True)
+        print(plain(text).encode("utf-8", "backslashreplace").decode(), file=sys.stderr, flush=True)
     except (OSError, ValueError, AttributeError):
         pass
 

@@ -1,8 +1,9 @@
-"""Where the places that `judge` prints stand in a tree's own sources: declarations, members and arguments, by their canonical names. Sources of a
-checked tree are cut into tokens and walked; anything else is a fault."""
+"""Where the places that `judge` prints stand in a tree's own sources: declarations, members and arguments, by their canonical names, and the
+annotations of each. Sources of a checked tree are cut into tokens and walked; anything else is a fault."""
 
 from __future__ import annotations
 
+import bisect
 import os
 import re
 from dataclasses import dataclass
@@ -31,15 +32,17 @@ class Place:
 
 
 class Source:
-    """A file of a checked tree: the names of its declarations, members and arguments, as tokens by place; and where each of these begins."""
+    """A file of a checked tree: the names of its declarations, members and arguments, as tokens by place; and the names of their annotations."""
 
     def __init__(self, folder: str, path: str):
         self.path = os.path.join(folder, path)
         with open(self.path, "rb") as file:
             self.bytes = file.read()
         self.tokens = [one for one in TOKEN.finditer(self.bytes) if not one[0].startswith(COMMENTS)]
+        self.starts = [0, *(one.end() for one in re.finditer(rb"\n", self.bytes))]
         self.at = 0
         self.names: dict[str, re.Match[bytes]] = {}
+        self.marks: dict[str, dict[str, re.Match[bytes]]] = {}
         try:
             self.file()
         except IndexError as why:
@@ -66,13 +69,18 @@ class Source:
             at += 1
         return at + 1
 
-    def annotations(self) -> None:
+    def annotations(self) -> dict[str, re.Match[bytes]]:
+        """Goes behind the annotations that stand here, and answers their names."""
+        found = {}
         while self.word() == b"@":
+            name = self.tokens[self.at + 1]
+            found[name[0].decode()] = name
             self.at += 2
             while self.word() == b".":
                 self.at += 2
             if self.word() == b"(":
                 self.group()
+        return found
 
     def group(self) -> None:
         """Goes behind the bracket that closes the one which stands here."""
@@ -84,13 +92,13 @@ class Source:
                 return
 
     def declaration(self, above: str) -> None:
-        self.annotations()
+        marks = self.annotations()
         self.at += self.word() == b"oneway"
         kind, name = self.word(), self.tokens[self.at + 1]
         if kind not in KINDS:
             raise Fault(f"{self.path}: there is no declaration at byte {self.tokens[self.at].start()}")
         place = above + name[0].decode()
-        self.names[place] = name
+        self.names[place], self.marks[place] = name, marks
         self.at += 3
         while self.word() != b"}":
             if kind == b"enum":
@@ -106,20 +114,20 @@ class Source:
 
     def member(self, above: str) -> None:
         start = self.at
-        self.annotations()
+        marks = self.annotations()
         oneway = self.word() == b"oneway"
         if self.tokens[self.at + oneway][0] in KINDS:
             self.at = start
             self.declaration(above + ".")
             return
         self.at += oneway
-        self.annotations()
+        marks.update(self.annotations())
         constant = self.word() == b"const"
         while self.word() not in (b"=", b"(", b";"):
             self.at += 1
         name = self.tokens[self.at - 1]
         place = f"{above}.{name[0].decode()}"
-        self.names[place] = name
+        self.names[place], self.marks[place] = name, marks
         if self.word() == b"(" and not constant:
             self.arguments(place)
         self.statement((b";",))
@@ -129,12 +137,14 @@ class Source:
         self.at += 1
         number = 0
         while self.word() != b")":
+            marks: dict[str, re.Match[bytes]] = {}
             while self.word() not in (b",", b")"):
                 if self.word() == b"@":
-                    self.annotations()
+                    marks.update(self.annotations())
                 else:
                     self.at += 1
             self.names[f"{method}/{number}"] = self.tokens[self.at - 1]
+            self.marks[f"{method}/{number}"] = marks
             number += 1
             self.at += self.word() == b","
 
@@ -147,10 +157,12 @@ class Source:
                 self.at += 1
 
     def place(self, name: re.Match[bytes]) -> Place:
-        before = self.bytes[: name.start()].split(b"\n")
-        column = len(before[-1].decode(errors="surrogateescape")) + 1
-        text = self.bytes.split(b"\n")[len(before) - 1].decode(errors="surrogateescape").rstrip("\r")
-        return Place(self.path, len(before), column, column + len(name[0]), text)
+        line = bisect.bisect_right(self.starts, name.start())
+        start = self.starts[line - 1]
+        column = len(self.bytes[start : name.start()].decode(errors="surrogateescape")) + 1
+        end = self.bytes.find(b"\n", start)
+        text = self.bytes[start : end if end >= 0 else None].decode(errors="surrogateescape").rstrip("\r")
+        return Place(self.path, line, column, column + len(name[0]), text)
 
 
 class Places:
@@ -161,6 +173,12 @@ class Places:
         for path in sources(folder):
             source = Source(folder, path)
             self.found.update({place: (source, name) for place, name in source.names.items()})
+
+    def annotation(self, place: str, name: str) -> Optional[Place]:
+        """Where an annotation of a place stands, if the place has it."""
+        source = self.found[place][0] if place in self.found else None
+        mark = source.marks.get(place, {}).get(name) if source else None
+        return source.place(mark) if source and mark else None
 
     def exact(self, place: str) -> Optional[Place]:
         """Where a place stands, if the tree has it."""

@@ -2,6 +2,7 @@
 
 from __future__ import annotations
 
+import os
 import sys
 import unicodedata
 
@@ -19,9 +20,16 @@ def escaped(text: str, more: str = "") -> str:
     return "".join(f"%{ord(char):02X}" if char in "%\r\n" + more else char for char in text)
 
 
+def in_workspace(path: str) -> str:
+    """The path from the top of a workflow's checkout, from which GitHub reads it, whatever folder the job runs in."""
+    top = os.environ.get("GITHUB_WORKSPACE")
+    inside = os.path.relpath(os.path.realpath(path), os.path.realpath(top)) if top else ".."
+    return path if inside == ".." or inside.startswith("../") else inside
+
+
 def annotation(text: str, path: str = "", line: int = 0, column: int = 0, level: str = "error", title: str = "") -> str:
     """The annotation of a GitHub workflow that says this, at a place if there is one."""
-    parts = [f"file={escaped(path, ':,')}", f"line={line}", f"col={column}"] if path else []
+    parts = [f"file={escaped(in_workspace(path), ':,')}", f"line={line}", f"col={column}"] if path else []
     parts += [f"title={escaped(title, ':,')}"] if title else []
     return f"::{level}{' ' if parts else ''}{','.join(parts)}::{escaped(text)}"
 

@@ -12,7 +12,9 @@ TABLE = pathlib.Path(__file__).with_name("rules.json")
 
 @dataclass(frozen=True)
 class Rule:
-    """A rule: its code as it is printed, a phrase, the reasons and what to do instead as its rows of the page have them, the page and the section."""
+    """A rule: its code as it is printed, a phrase, the reasons and what to do instead as its rows of the page have them, the page and the section;
+    of a rule of evolution also whom a break hurts: `old clients`; `old senders`, whose parcels a new version reads; `both`, old and new clients; or
+    `builds`, where no byte changes and only code that was compiled with the old text."""
 
     code: str
     phrase: str
@@ -20,6 +22,7 @@ class Rule:
     insteads: tuple[str, ...]
     page: str
     title: str
+    hurt: str = ""
 
     @property
     def reason(self) -> str:
@@ -34,7 +37,7 @@ class Rule:
 def rules() -> dict[str, Rule]:
     """All rules by their codes: `lex 1` to `lex 4`, `syntax`, E1 to E24, C1 to C19."""
     table = json.loads(TABLE.read_text(encoding="utf-8"))
-    return {code: Rule(code, row["phrase"], tuple(row["reason"]), tuple(row["instead"]), row["page"], row["title"]) for code, row in table.items()}
+    return {code: Rule(code, row["phrase"], tuple(row["reason"]), tuple(row["instead"]), row["page"], row["title"], row.get("hurt", "")) for code, row in table.items()}
 
 
 def phrase(code: str) -> str:

@@ -1,9 +1,11 @@
 -- Which calls are made of a store: to read, by what it tells, or to write (own).
-use Rattle.std.specs.Prelude.{◌≡◌, ℕ, ◌⊎◌, List, Option, Contains}
+use Rattle.std.specs.Prelude.{◌≡◌, ℕ, ◌≤◌, ◌⊎◌, List, ◌∷◌, ◌++◌, length, All, Option, IfSome}
+use Rattle.std.specs.FinMap.{get}
 use Rattle.aidl_base.specs.declared.limit.LimitName.{LimitName}
 use Rattle.aidl_base.specs.Limits.{limit_number}
 use Rattle.aidl_outside.specs.Faults.{StoreCall, reading, writing}
-use Rattle.aidl_outside.specs.Files.{Files, path_below}
+use Rattle.aidl_outside.specs.Files.{Files}
+use Rattle.aidl_outside.specs.Told.{Tells}
 
 abbrev pub Asks : Type 1
 Asks = Option Files → StoreCall → Type 0
@@ -15,10 +17,14 @@ AsksNothing kept call = ⊥
 abbrev pub AsksFile : LimitName → List ℕ → Asks
 AsksFile which path kept call = call ≡ reading path (limit_number which)
 
--- so is a file at one of some paths below a folder
-abbrev pub AsksThese : LimitName → List ℕ → List (List ℕ) → StoreCall → Type 0
-AsksThese which folder paths call =
-    (path : List ℕ) × (call ≡ reading (path_below folder path) (limit_number which)) × Contains paths path
+-- no file at some paths is longer than this limit
+abbrev pub AreNoneLong : LimitName → List (List ℕ) → Files → Type 0
+AreNoneLong which paths files = All (λ path. IfSome (get files path) (λ bytes. length bytes ≤ limit_number which)) paths
+
+-- the files at some paths are read in order: one of them, where none before it is too long
+abbrev pub AsksInOrder : LimitName → List (List ℕ) → Asks
+AsksInOrder which paths kept call = (before after : List (List ℕ)) × (path : List ℕ)
+    × (paths ≡ before ++ path ∷ after) × AsksFile which path kept call × Tells kept (AreNoneLong which before)
 
 -- these calls and those
 infixr 5 ◌also◌

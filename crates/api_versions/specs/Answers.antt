@@ -1,5 +1,5 @@
 -- What is answered where a step is defined, and when the store's count rises (own).
-use Rattle.std.specs.Prelude.{◌≡◌, ℕ, Result, Ok, Err}
+use Rattle.std.specs.Prelude.{◌≡◌, Result, Ok, Err}
 use Rattle.aidl_outside.specs.Causes.{Rose}
 use Rattle.aidl_outside.specs.Faults.{StoreFaults}
 use Rattle.aidl_outside.specs.declared.store.StoreFault.{StoreFault}

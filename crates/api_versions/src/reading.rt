@@ -1,11 +1,13 @@
 //! All versions of an API, read from a store.
 ghost use Rattle.std.specs.Prelude.{◌≡◌, length, map, true, IfOk, Ok, string_bytes};
 ghost use Rattle.std.specs.List.{list_all, range_with_len};
+ghost use Rattle.aidl_base.specs.declared.limit.LimitName.TheVariants.{FileBytes};
+ghost use Rattle.aidl_outside.specs.Asks.{AsksInOrder};
 ghost use Rattle.aidl_outside.specs.Faults.{listing as lists};
 ghost use Rattle.aidl_outside.specs.Entries.{path_of};
 ghost use Rattle.aidl_outside.specs.Files.{is_ascending, listing};
 ghost use Rattle.aidl_outside.specs.Told.{Tells};
-ghost use Rattle.api_versions.specs.Asks.{AsksFolder, AsksFolders, AsksVersions, FailedCall};
+ghost use Rattle.api_versions.specs.Asks.{AsksFolders, AsksVersions, FailedCall, paths_read};
 ghost use Rattle.api_versions.specs.Answers.{Gives, GivesAs, ReadCause};
 ghost use Rattle.api_versions.specs.Versions as meant;
 ghost use Rattle.api_versions.specs.Versions.{AreNumbered, are_ascending};
@@ -80,7 +82,7 @@ fn load_all<S: Store>(
     ensures unchanged { S.kept store.new ≡ S.kept store.old }
     ensures cause { ReadCause (S.fault_record store.old) (S.fault_record store.new) result }
     ensures failed { FailedCall
-        (AsksFolders api.now (meant.present (map folder_seen folders.items)))
+        (AsksFolders api.now (meant.present (map folder_seen folders.items)) (S.kept store.old))
         (S.fault_record store.new) result }
 {
     let missing = missing(folders.as_slice());
@@ -104,7 +106,8 @@ fn load_versions<S: Store>(
         → IfOk result (λ versions. are_ascending versions ≡ true) }
     ensures unchanged { S.kept store.new ≡ S.kept store.old }
     ensures cause { ReadCause (S.fault_record store.old) (S.fault_record store.new) result }
-    ensures failed { FailedCall (AsksFolders api.now (map folder_seen folders.items))
+    ensures failed { FailedCall
+        (AsksFolders api.now (map folder_seen folders.items) (S.kept store.old))
         (S.fault_record store.new) result }
 {
     let mut versions = Row::new(alloc);
@@ -129,7 +132,8 @@ fn load_version<S: Store>(
         → IfOk result (λ version. is_ascending (map path_of version.files) ≡ true) }
     ensures unchanged { S.kept store.new ≡ S.kept store.old }
     ensures cause { ReadCause (S.fault_record store.old) (S.fault_record store.new) result }
-    ensures failed { FailedCall (AsksFolder api.now (folder_seen folder))
+    ensures failed { FailedCall
+        (AsksInOrder FileBytes (paths_read api.now (folder_seen folder)) (S.kept store.old))
         (S.fault_record store.new) result }
 {
     let path = version_folder(alloc, api, folder.number)?;

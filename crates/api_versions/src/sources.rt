@@ -2,9 +2,9 @@
 ghost use Rattle.std.specs.Prelude.{◌≡◌, ◌++◌, map, true, IfOk, OnOk, string_bytes};
 ghost use Rattle.aidl_base.specs.declared.limit.LimitName.TheVariants.{FileBytes};
 ghost use Rattle.aidl_outside.specs.Entries.{path_of};
-ghost use Rattle.aidl_outside.specs.Files.{is_ascending};
+ghost use Rattle.aidl_outside.specs.Files.{is_ascending, path_below};
 ghost use Rattle.aidl_outside.specs.Told.{Tells};
-ghost use Rattle.aidl_outside.specs.Asks.{AsksThese};
+ghost use Rattle.aidl_outside.specs.Asks.{AsksInOrder};
 ghost use Rattle.api_versions.specs.Asks.{FailedCall};
 ghost use Rattle.api_versions.specs.Answers.{Gives, ReadCause};
 ghost use Rattle.api_versions.specs.Versions as meant;
@@ -28,7 +28,8 @@ pub fn load_sources<S: Store>(
         → IfOk result (λ files. is_ascending (map path_of files) ≡ true) }
     ensures unchanged { S.kept store.new ≡ S.kept store.old }
     ensures cause { ReadCause (S.fault_record store.old) (S.fault_record store.new) result }
-    ensures failed { FailedCall (AsksThese FileBytes folder.now (map string_bytes paths.items))
+    ensures failed { FailedCall
+        (AsksInOrder FileBytes (map (path_below folder.now) (map string_bytes paths.items)) (S.kept store.old))
         (S.fault_record store.new) result }
 {
     let mut files = Row::new(alloc);

@@ -12,3 +12,5 @@ mod SameNames
 mod Types
 pub mod lemmas
 mod Entered
+mod EveryCall
+mod QuietLines

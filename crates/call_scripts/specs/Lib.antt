@@ -1,4 +1,5 @@
 pub mod Answers
+pub mod EveryCall
 pub mod Fits
 pub mod Gives
 pub mod Keys

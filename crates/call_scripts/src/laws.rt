@@ -1,4 +1,4 @@
-//! What a valid schema gives of the types of its methods, and two of them of the calls between them.
+//! What a valid schema gives of the types of its methods, and two of them of the calls between them and of the lines that say these.
 ghost use Rattle.std.specs.Prelude.{◌≡◌, None, true};
 ghost use Rattle.std.specs.List.{list_all};
 ghost use Rattle.aidl_schema.specs.Methods.{is_passed_type, is_result_type};
@@ -7,6 +7,7 @@ ghost use Rattle.wire_model.specs.Calls as calls;
 ghost use Rattle.wire_model.specs.Calls.{arguments, is_oneway, result_type};
 ghost use Rattle.wire_model.specs.MethodOf.{method_of};
 ghost use Rattle.wire_model.specs.Requests.{IsAnswer};
+ghost use Rattle.call_scripts.specs.EveryCall.{EachHasLine, LinesAreQuiet};
 ghost use Rattle.call_scripts.specs.Script.{ScriptsFit};
 
 use aidl_schema::{Schema, law_valid};
@@ -21,6 +22,16 @@ pub fn law_script_fits(client: &Schema, server: &Schema)
     law_valid(server);
     law_sound(client);
     law_sound(server);
+}
+
+/// The other way round: each call between a client and a server that fits is the one of some object of a line, unless SERVER's method is
+/// oneway and something is answered of it, which no line says.
+pub fn law_every_call_has_a_line(client: &Schema, server: &Schema)
+    ensures each { EachHasLine client.now.decls server.now.decls }
+    ensures quiet { LinesAreQuiet client.now.decls server.now.decls }
+{
+    law_valid(client);
+    law_valid(server);
 }
 
 // What a valid schema gives of the types of a method, and of a oneway one.

@@ -12,6 +12,6 @@ mod refused;
 mod script;
 mod thrown;
 
-pub use laws::law_script_fits;
+pub use laws::{law_every_call_has_a_line, law_script_fits};
 pub use refused::{Place, Refused, RefusedName};
 pub use script::{Call, Script, Target, script_of};

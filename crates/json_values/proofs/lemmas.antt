@@ -1,2 +1,3 @@
 -- Laws of this crate's definitions that crates above cite.
 pub mod Names
+pub mod Written

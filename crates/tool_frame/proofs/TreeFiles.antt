@@ -1,25 +1,27 @@
 -- The files of a tree, one after another.
-use Rattle.std.proofs.Common.{◌≡◌, ℕ, ◌≤◌, Bool, true, false, cond, List, [], ◌∷◌, ◌++◌, append_assoc, length, map, Option, String, Global, string_bytes, Result, Ok, Err, refl, ap, sym, ◌∙◌, subst, arith, inr}
-use Rattle.std.specs.Prelude.{All}
+use Rattle.std.proofs.Common.{◌≡◌, ℕ, ◌≤◌, Bool, true, false, cond, List, [], ◌∷◌, ◌++◌, append_assoc, length, map, Option, Some, None, String, Global, string_bytes, Result, Ok, Err, refl, ap, sym, ◌∙◌, subst, arith, inr}
+use Rattle.std.specs.FinMap.{get}
+use Rattle.std.specs.Option.{option_map}
+use Rattle.std.specs.Prelude.{All, IfSome, nat_lt}
 use Rattle.std.specs.List.{filter}
 use Rattle.std.proofs.lemmas.List.{append-nil}
-use Rattle.std.proofs.lemmas.List.Elements.{All-contains}
+use Rattle.std.proofs.lemmas.Bool.{ltb-false}
 use Rattle.aidl_base.specs.declared.limit.Limit.{Limit}
 use Rattle.aidl_base.specs.declared.limit.LimitName.TheVariants.{FileBytes}
 use Rattle.aidl_base.specs.declared.limit.LimitName.TheVariants as limit
 use Rattle.aidl_base.specs.declared.source_file.SourceFile.{SourceFile}
 use Rattle.aidl_base.specs.Limits.{limit_number}
 use Rattle.aidl_base.specs.Results.{◌>>=◌}
-use Rattle.aidl_outside.specs.Asks.{AsksFile}
+use Rattle.aidl_outside.specs.Asks.{AreNoneLong, AsksInOrder}
 use Rattle.aidl_outside.specs.Faults.{FailedIn, StoreCall, StoreFaults}
 use Rattle.aidl_outside.specs.Files.{Files, path_below}
 use Rattle.aidl_outside.specs.Told.{Tells}
-use Rattle.tool_frame.specs.Answer.{Found}
-use Rattle.tool_frame.specs.Asks.{AreNoneLong, AsksInOrder, AsksTree, IsNextSource}
-use Rattle.tool_frame.specs.Refusals.{file_at}
+use Rattle.tool_frame.specs.Answer.{Found, limit_passed}
+use Rattle.tool_frame.specs.Asks.{AsksTree}
+use Rattle.tool_frame.specs.Refusals.{file_at, within}
 use Rattle.tool_frame.specs.Trees.{few, files_at, file_found, is_source, sources_below}
 use Rattle.tool_frame.specs.steps.Trees.{onto, so_far}
-use Rattle.aidl_outside.proofs.lemmas.Asked.{next_among}
+use Rattle.aidl_outside.proofs.lemmas.Asked.{IsShort, short_more}
 use Rattle.aidl_outside.proofs.lemmas.Failing.{failed_as}
 use Rattle.aidl_outside.proofs.lemmas.Telling.{tells, tells_both}
 
@@ -69,61 +71,40 @@ module _ (root : List ℕ) where
       tells kept (λ files. onto now (Ok []) ≡ files_at files root all) _ (λ files same. ap Ok (sym (append-nil now)) ∙ same) so_all
   steps_done kept (path ∷ left) all now none so_all = absurd (cc)
 
--- the files at some paths, and then those at others
-with_first_again : (first second third : Found (List SourceFile)) → with_first first (with_first second third) ≡ with_first (with_first first second) third
-with_first_again (Ok xs) (Ok ys) (Ok zs) = ap Ok (sym (append_assoc xs ys zs))
-with_first_again (Ok xs) (Ok ys) (Err answer) = refl
-with_first_again (Ok xs) (Err answer) third = refl
-with_first_again (Err answer) second third = refl
+-- a file that was added isn't too long
+added_short : (bytes path : List ℕ) (before now : List SourceFile) (passed : Bool)
+    → nat_lt (limit_number FileBytes) (length bytes) ≡ passed
+    → onto before (file_found path (Some (cond passed (Err (limit_passed FileBytes)) (Ok bytes)))) ≡ Ok now → length bytes ≤ limit_number FileBytes
+added_short bytes path before now true is h = absurd (cc)
+added_short bytes path before now false is h = ltb-false (limit_number FileBytes) (length bytes) is
 
-with_none : (found : Found (List SourceFile)) → found ≡ with_first (Ok []) found
-with_none (Ok files) = refl
-with_none (Err answer) = refl
-
-module _ (root : List ℕ) (files : Files) where
-  files_append : (before after : List (List ℕ)) → files_at files root (before ++ after) ≡ with_first (files_at files root before) (files_at files root after)
-  files_append [] after = with_none (files_at files root after)
-  files_append (path ∷ before) after =
-      ap (with_first (found_at root files path)) (files_append before after) ∙ with_first_again (found_at root files path) (files_at files root before) (files_at files root after)
-
-  -- one file more
-  one_more : (before now : List SourceFile) (done : List (List ℕ)) (path : List ℕ) → onto before (found_at root files path) ≡ Ok now → files_at files root done ≡ Ok before
-      → files_at files root (done ++ path ∷ []) ≡ Ok now
-  one_more before now done path next so_far =
-      files_append done (path ∷ [])
-      ∙ ap (λ found. with_first found (with_first (found_at root files path) (Ok []))) so_far
-      ∙ with_first_again (Ok before) (found_at root files path) (Ok [])
-      ∙ ap (λ found. with_first found (Ok [])) next
-      ∙ ap Ok (append-nil now)
+found_short : (file : Option (List ℕ)) (path : List ℕ) (before now : List SourceFile) → onto before (file_found path (option_map (within FileBytes) file)) ≡ Ok now
+    → IfSome file (λ bytes. length bytes ≤ limit_number FileBytes)
+found_short None path before now h = tt
+found_short (Some bytes) path before now h = added_short bytes path before now (nat_lt (limit_number FileBytes) (length bytes)) refl h
 
 -- none so far is too long
 pub passed_more : {A : Type 0} (root : List ℕ) (here kept : Option Files) (done : List (List ℕ)) (path : List ℕ) (before now : List SourceFile) (step : Result A Limit) (x : A) → here ≡ kept → step ≡ Ok x
     → Tells here (λ files. onto before (found_at root files path) ≡ so_far now step)
-    → Tells kept (λ files. files_at files root done ≡ Ok before)
-    → Tells kept (λ files. files_at files root (done ++ path ∷ []) ≡ Ok now)
+    → Tells kept (AreNoneLong FileBytes (map (path_below root) done))
+    → Tells kept (AreNoneLong FileBytes (map (path_below root) (done ++ path ∷ [])))
 passed_more root here kept done path before now step x same went told passed =
-    tells_both kept (λ files. onto before (found_at root files path) ≡ so_far now step) (λ files. files_at files root done ≡ Ok before) _
-    (λ files next before_it. one_more root files before now done path (next ∙ ap (so_far now) went) before_it)
-    (subst (λ k. Tells k (λ files. onto before (found_at root files path) ≡ so_far now step)) same told) passed
-
--- the next file is asked for where none before it is too long
-pub asks_in_order : (root path : List ℕ) (paths done left after : List (List ℕ)) (here kept : Option Files) (found : List SourceFile) → paths ≡ done ++ left → left ≡ path ∷ after
-    → Tells kept (λ files. files_at files root done ≡ Ok found) → (call : StoreCall) → AsksFile FileBytes (path_below root path) here call → AsksInOrder root paths kept call
-asks_in_order root path paths done left after here kept found all next passed call is =
-    (done, after, path, all ∙ ap (λ ps. done ++ ps) next, is, tells kept _ _ (λ files same. (found, same)) passed)
+    short_more FileBytes root path done kept
+    (tells kept (λ files. onto before (found_at root files path) ≡ so_far now step) (IsShort FileBytes (path_below root path))
+    (λ files next. found_short (get files (path_below root path)) path before now (next ∙ ap (so_far now) went))
+    (subst (λ k. Tells k (λ files. onto before (found_at root files path) ≡ so_far now step)) same told)) passed
 
 few_paths : (paths : List (List ℕ)) → length paths ≤ limit_number limit.Files → few paths ≡ Ok paths
 few_paths paths le = grind arith
 
 -- the calls for the sources of a tree are those for the tree
 pub asks_tree : (root : List ℕ) (paths : List (List ℕ)) (here kept : Option Files) (faults : StoreFaults) → here ≡ kept → Tells kept (λ files. paths ≡ sources_below root files) → All (λ path. is_source path ≡ true) paths
-    → length paths ≤ limit_number limit.Files → FailedIn faults (AsksInOrder root paths here) → FailedIn faults (AsksTree root kept)
+    → length paths ≤ limit_number limit.Files → FailedIn faults (AsksInOrder FileBytes (map (path_below root) paths) here) → FailedIn faults (AsksTree root kept)
 asks_tree root paths here kept faults unchanged told sources is_few failed =
     failed_as faults _ _ (λ call is.
     inr (
-      is.2,
-      is.4,
-      All-contains (λ p. is_source p ≡ true) paths is.2 sources (next_among paths is.0 (is.2 ∷ is.1) is.1 is.2 is.3 refl),
-      tells_both kept (λ files. paths ≡ sources_below root files) (AreNoneLong root is.0) (IsNextSource root is.2)
-          (λ files same passed. (is.0, is.1, ap few (sym same) ∙ few_paths paths is_few ∙ ap Ok is.3, passed)) told (subst (λ k. Tells k (AreNoneLong root is.0)) unchanged is.5),
+      paths,
+      subst (λ k. AsksInOrder FileBytes (map (path_below root) paths) k call) unchanged is,
+      sources,
+      tells kept (λ files. paths ≡ sources_below root files) (λ files. few (sources_below root files) ≡ Ok paths) (λ files same. ap few (sym same) ∙ few_paths paths is_few) told,
     )) failed

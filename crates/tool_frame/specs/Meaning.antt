@@ -8,10 +8,11 @@ use Rattle.tool_frame.specs.Answer.{Answer}
 use Rattle.tool_frame.specs.Course.{Course, answer_after, due_after}
 use Rattle.aidl_outside.specs.Parcel.{Parcel, parcel_of}
 
--- The calls that it makes to read from the store. The files that it writes, in order, one list of them or none. The
--- parcel that is due after those that were carried, by what was delivered; None where no more is. And its answers,
--- one or none: while a parcel is due, the text of an answer is what is printed before that one is carried. A
--- command either never writes, whatever the files are, or may, and so it is with carrying.
+-- The calls that it makes to read from the store. The files that it writes, in order. The parcel that is due after
+-- those that were carried, by what was delivered; None where no more is. And its answer: while a parcel is due, its
+-- text is what is printed before that one is carried. Of each of these three there is one, over the same files
+-- (`law_some_meaning` and `law_one_meaning` of `aidl_tool`). A command either never writes, whatever the files are, or
+-- may, and so it is with carrying.
 pub record Meaning : Type 1 where
   pub may_write : Bool
   pub may_carry : Bool
@@ -35,8 +36,8 @@ writes_by asks writes answers = record {
 abbrev pub reads_by : Asks → (Files → Answer → Type 0) → Meaning
 reads_by asks answers = record (writes_by asks (λ files made. made ≡ []) answers) { may_write = false }
 
--- A command that first writes and then carries, by what it asks the store, what it writes, and the courses that it
--- may take: one of them, or none. The last two go by the files that the store told before.
+-- A command that first writes and then carries, by what it asks the store, what it writes, and the course that it
+-- takes. The last two go by the files that the store told before.
 abbrev pub does_by : Asks → (Files → List Write → Type 0) → (Files → Course → Type 0) → Meaning
 does_by asks writes takes = record {
   may_write = true;

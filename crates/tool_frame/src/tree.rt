@@ -1,12 +1,12 @@
 //! Loading the `.aidl` files of a tree from a store, within the limits on their number and their bytes.
 ghost use Rattle.std.specs.Prelude.{◌≡◌, ◌++◌, ◌∷◌, [], All, IfOk, OnOk, map, string_bytes, true};
 ghost use Rattle.aidl_base.specs.declared.limit.LimitName.TheVariants.{FileBytes};
-ghost use Rattle.aidl_outside.specs.Asks.{AsksFile};
+ghost use Rattle.aidl_outside.specs.Asks.{AsksFile, AsksInOrder};
 ghost use Rattle.aidl_outside.specs.Causes.{StoreCause};
 ghost use Rattle.aidl_outside.specs.Faults.{FailedIn, IfStoreFailed, listing as lists};
 ghost use Rattle.aidl_outside.specs.Files.{path_below};
 ghost use Rattle.aidl_outside.specs.Told.{Tells};
-ghost use Rattle.tool_frame.specs.Asks.{AsksInOrder, AsksTree};
+ghost use Rattle.tool_frame.specs.Asks.{AsksTree};
 ghost use Rattle.tool_frame.specs.Refusals.{file_at};
 ghost use Rattle.tool_frame.specs.Trees.{AreShort, file_found, files_at, is_source, sources_below, tree_at, tree_seen};
 ghost use Rattle.tool_frame.specs.Results.{IsShort, loaded};
@@ -80,7 +80,7 @@ fn load_files<S: Store>(
     ensures unchanged { S.kept store.new ≡ S.kept store.old }
     ensures cause { StoreCause (S.fault_record store.old) (S.fault_record store.new) result }
     ensures failed { IfStoreFailed result (FailedIn (S.fault_record store.new)
-        (AsksInOrder root.now (map string_bytes paths.items) (S.kept store.old))) }
+        (AsksInOrder FileBytes (map (path_below root.now) (map string_bytes paths.items)) (S.kept store.old))) }
 {
     let mut files = Row::new(alloc);
     for path in paths {

@@ -29,4 +29,4 @@ pub returns-in_err-versions-clause-failed : goal.returns-in_err-versions-clause-
 returns-in_err-versions-clause-failed g c =
     let q = err_from_is_err_and c.from_residual.result c.from_residual.ensures.1 in
     rw (q.1, q.2) (refusal_as _ _ (g.S.Store.fault_record c.load_versions.new.store) c.in_err-versions.field-0.0
-    (λ call is. subst (λ fs. AsksFolders c.args.api.now fs call) c.present.ensures is) c.in_err-versions.ensures.failed)
+    (λ call is. subst (λ fs. AsksFolders c.args.api.now fs (g.S.Store.kept c.args.store.now) call) c.present.ensures is) c.in_err-versions.ensures.failed)

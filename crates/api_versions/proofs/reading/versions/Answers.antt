@@ -34,4 +34,4 @@ returns-in-Ok-clause-failed g c =
     tells kept _ _
     (λ files same. let is : listing c.args.api.now files ≡ map string_bytes c.in_ok-paths.paths.items = cc in is ∙ shown) c.in_ok-paths.ensures.told in
     answer_as _ _ (g.S.Store.fault_record c.load_all.new.store) c.load_all.result
-    (asks_versions c.args.api.now paths (map folder_seen c.in-Ok.folders.items) kept told c.in-Ok.ensures.defined) c.load_all.ensures.failed
+    (asks_versions c.args.api.now paths (map folder_seen c.in-Ok.folders.items) (g.S.Store.kept c.listed.new.store) kept c.in_ok-paths.ensures.unchanged told c.in-Ok.ensures.defined) c.load_all.ensures.failed

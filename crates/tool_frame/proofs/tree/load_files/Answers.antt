@@ -1,7 +1,9 @@
 use Rattle.std.proofs.Common.{ap, sym, ◌∙◌, [], ◌∷◌, ◌++◌, append_assoc, map, string_bytes}
 use Rattle.std.proofs.lemmas.Result.{err_from_is_err_and}
+use Rattle.aidl_base.specs.declared.limit.LimitName.TheVariants.{FileBytes}
+use Rattle.aidl_outside.proofs.lemmas.Asked.{asks_next}
 use Rattle.aidl_outside.proofs.lemmas.Failing.{failed_as, fault_as}
-use Rattle.tool_frame.proofs.TreeFiles.{asks_in_order, passed_more, step_more, steps_done}
+use Rattle.tool_frame.proofs.TreeFiles.{passed_more, step_more, steps_done}
 use Rattle.tool_frame.proofs.tree.load_files.Goals as goal
 
 pub loop-path-preserved : goal.loop-path-preserved
@@ -30,5 +32,5 @@ returns-clause-tree g c =
 pub returns-in_err-limit-clause-failed : goal.returns-in_err-limit-clause-failed
 returns-in_err-limit-clause-failed g c =
     let q = err_from_is_err_and c.from_residual.result c.from_residual.ensures.1 in
-    rw (q.1, q.2) (fault_as c.in_err-limit.field-0.0 _ _ (failed_as (g.S.Store.fault_record c.load_next.new.store) _ _ (asks_in_order c.args.root.now (string_bytes c.in-Some.path) (map string_bytes c.args.paths.items)
-    c.loop-path.invariant.left.0 _ _ (g.S.Store.kept c.loop-path.store) (g.S.Store.kept c.args.store.now) _ c.loop-path.invariant.left.1 (ap (map string_bytes) c.in-Some.ensures.steps.0) c.loop-path.invariant.left.2)) c.in_err-limit.ensures.failed)
+    rw (q.1, q.2) (fault_as c.in_err-limit.field-0.0 _ _ (failed_as (g.S.Store.fault_record c.load_next.new.store) _ _ (asks_next FileBytes c.args.root.now (string_bytes c.in-Some.path) (map string_bytes c.args.paths.items)
+    c.loop-path.invariant.left.0 _ _ (g.S.Store.kept c.loop-path.store) (g.S.Store.kept c.args.store.now) c.loop-path.invariant.left.1 (ap (map string_bytes) c.in-Some.ensures.steps.0) c.loop-path.invariant.left.2)) c.in_err-limit.ensures.failed)
