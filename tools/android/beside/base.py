@@ -67,15 +67,20 @@ class Options:
 
 
 class Counts:
-    """What a part found: figures with their words, in the order in which they came, and the differences that no row explains."""
+    """What a part found: figures with their words, in the order in which they came, details of them, and the differences that no row explains."""
 
     def __init__(self) -> None:
         self.figures: "collections.Counter[str]" = collections.Counter()
+        self.details: "collections.Counter[str]" = collections.Counter()
         self.unexplained: List[str] = []
 
     def add(self, words: str, number: int = 1) -> None:
         """Counts `number` more of what the words say."""
         self.figures[words] += number
+
+    def detail(self, words: str, number: int = 1) -> None:
+        """Counts a detail; they are printed behind the figures, sorted."""
+        self.details[words] += number
 
     def differ(self, *words: object) -> None:
         """Notes a difference that no row explains."""
@@ -84,11 +89,13 @@ class Counts:
     def join(self, other: "Counts") -> None:
         """Adds what another count found."""
         self.figures.update(other.figures)
+        self.details.update(other.details)
         self.unexplained += other.unexplained
 
     def lines(self) -> Iterator[str]:
-        """The figures as they are printed, then at most ten differences, without control characters."""
-        for words, number in self.figures.items():
+        """The figures as they are printed, the details, then at most ten differences without control characters."""
+        details = sorted(self.details.items(), key=lambda item: [int(part) if part.isdigit() else part for part in re.split(r"(\d+)", item[0])])
+        for words, number in [*self.figures.items(), *details]:
             yield f"{number:9,} {words}"
         for difference in self.unexplained[:10]:
             shown = difference[:900].encode("ascii", "backslashreplace").decode()
