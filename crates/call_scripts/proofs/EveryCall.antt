@@ -22,7 +22,7 @@ use Rattle.aidl_schema.specs.declared.schema.Kind.TheVariants as kind
 use Rattle.aidl_schema.specs.declared.schema.Method.{Method}
 use Rattle.aidl_schema.specs.Find.{interface_named, is_interface, is_interface_kind, methods_at, methods_of_decl, number_of_name}
 use Rattle.aidl_schema.specs.Holds.{AllHold, AreApart}
-use Rattle.aidl_schema.specs.Names.{are_identifiers, bytes_of, method_names, methods_of, name_of}
+use Rattle.aidl_schema.specs.Names.{are_identifiers, bytes_of, methods_of, name_of}
 use Rattle.aidl_schema.specs.Same.{same_text}
 use Rattle.aidl_schema.specs.Types.{is_array}
 use Rattle.aidl_values.specs.Data.{Data, null, truth, number, text, seq, rec, alt, Items, none, item}
@@ -30,17 +30,17 @@ use Rattle.aidl_values.specs.Fits.{Fits}
 use Rattle.json_values.proofs.lemmas.Written.{json_of, reads_back}
 use Rattle.json_values.specs.FromJson.{from_json_of}
 use Rattle.wire_model.proofs.lemmas.Lookups.{position_is}
-use Rattle.wire_model.specs.Calls.{AnswerData, returned, exception, arguments, descriptor, is_oneway, is_out, method_at, name_of_decl, out_types, result_type}
-use Rattle.wire_model.specs.MethodOf.{MethodOf, method_of}
+use Rattle.wire_model.specs.Calls.{AnswerData, returned, exception, arguments, descriptor, is_oneway, is_out, name_of_decl, out_types, result_type}
+use Rattle.wire_model.specs.MethodOf.{method_of}
 use Rattle.wire_model.specs.Requests.{AnswerFits, ArgumentsFit, ArgsFit, EachFits, ExceptionFits, IsAnswer, IsLength, ResultFits, asked_length, number_or_0, reply, request, sent_length, service_specific, sum_of_lengths}
-use Rattle.call_scripts.specs.Answers.{all_known, answer_from, answer_keys, are_in_range, exception_from, in_ranges, is_alone, object_from, outs_from, result_from, returned_from, thrown_of, thrown_or_returned, two_way_from, unknown_in, values_from, whole}
-use Rattle.call_scripts.specs.Arguments.{args_from, array_from, entries_from, entry_from, length_from, null_from}
-use Rattle.call_scripts.specs.Calls.{CallData, CallFits, TargetData, TargetFits, callee, method_of_server}
-use Rattle.call_scripts.specs.EveryCall.{EachHasLine, HasLine, OnewayIsQuiet}
-use Rattle.call_scripts.specs.Names.{Named, at_last_dot, method_meant, method_named, named_by, target_named}
-use Rattle.call_scripts.specs.Refusal.{Judged, ◌>>=◌, at_answer, at_args, at_call, at_entry, at_exception, at_return, at_value, placed, refuse, unless}
-use Rattle.call_scripts.specs.Script.{answered, call_from, line_keys, named_from, or_refuse, sent_from, target_from, text_from}
-use Rattle.call_scripts.specs.declared.refused.RefusedName.TheVariants.{OutOfRange, TooLarge, UnknownMethod}
+use Rattle.call_scripts.specs.Answers.{answer_from, are_in_range, exception_from, object_from, outs_from, result_from, returned_from, thrown_of, two_way_from, unknown_in, values_from}
+use Rattle.call_scripts.specs.Arguments.{args_from, array_from, entries_from, entry_from, null_from}
+use Rattle.call_scripts.specs.Calls.{CallData, CallFits, TargetData, TargetFits, callee}
+use Rattle.call_scripts.specs.EveryCall.{HasLine, OnewayIsQuiet}
+use Rattle.call_scripts.specs.Names.{Named, at_last_dot, method_meant, method_named}
+use Rattle.call_scripts.specs.Refusal.{Judged, ◌>>=◌, at_answer, at_args, at_entry, at_return, at_value, placed, unless}
+use Rattle.call_scripts.specs.Script.{answered, call_from, line_keys, named_from, sent_from, target_from}
+use Rattle.call_scripts.specs.declared.refused.RefusedName.TheVariants.{TooLarge}
 use Rattle.call_scripts.proofs.SameNames.{is_target}
 
 -- a step, and then another with what it gave

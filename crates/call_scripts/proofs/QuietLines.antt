@@ -10,7 +10,7 @@ use Rattle.wire_model.specs.Calls.{AnswerData, returned, is_oneway}
 use Rattle.wire_model.specs.MethodOf.{method_of}
 use Rattle.wire_model.specs.Requests.{reply}
 use Rattle.call_scripts.specs.Answers.{all_known, answer_from, oneway_from, unknown_in}
-use Rattle.call_scripts.specs.Calls.{CallData, TargetData}
+use Rattle.call_scripts.specs.Calls.{CallData}
 use Rattle.call_scripts.specs.EveryCall.{LinesAreQuiet, OnewayIsQuiet}
 use Rattle.call_scripts.specs.Names.{Named}
 use Rattle.call_scripts.specs.Refusal.{Judged, ◌>>=◌, at_answer, unless}
