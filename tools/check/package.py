@@ -30,7 +30,8 @@ class Room:
     def clone(self, name: str) -> pathlib.Path:
         """A clone whose `rt` makes the program by a copy, so that `./aidl` keeps it with what it was made of."""
         clone, kit = self.room / name, self.room / "kit/bin"
-        run("git", "clone", "-q", str(TOP), str(clone))
+        source = self.room / "first" if (self.room / "first").is_dir() else TOP  # one commit for all
+        run("git", "clone", "-q", str(source), str(clone))
         kit.mkdir(parents=True, exist_ok=True)
         (kit / "rt").write_text(f"#!/bin/sh\nmkdir -p crates/aidl/out && cp {shlex.quote(str(self.program))} crates/aidl/out/aidl\n")
         (kit / "rt").chmod(0o755)
