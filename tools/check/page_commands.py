@@ -6,15 +6,18 @@ of `try`. A block that is fenced as `trees` has cases as crates/worked_rows/data
 as `rows` has cases that stand in crates/worked_rows/data/check.rows, with ` .. ` for what is left out of one.
 """
 
+import os
 import pathlib
 import re
+import shlex
 import shutil
 import subprocess
+import sys
 import tempfile
 
 TOP = pathlib.Path(__file__).resolve().parents[2]
 MARK = "\x01"
-WAITS = 60  # seconds for the commands of a page
+WAITS = 600  # seconds for the commands of a page
 
 
 def blocks(text, kind):
@@ -31,26 +34,32 @@ def commands(text):
 
 
 def furnish(room, program):
-    """Makes the folder in which the commands of a page run."""
+    """Makes the folder in which the commands of a page run. Its `rt` makes the program by a copy, so that `aidl` knows what it was made of."""
     for name in ("ci", "examples"):
         shutil.copytree(TOP / name, room / name)
-    for name in ("aidl", "crates.txt", "HANDLES"):
-        shutil.copy(TOP / name, room)
+    (room / "tools").mkdir()
+    for name in ("aidl", "crates.txt", "HANDLES", "tools/scripts.sh"):
+        shutil.copy(TOP / name, room / name)
     for crate in re.findall(r"^(\w+):", (room / "crates.txt").read_text(), re.M):
         (room / "crates" / crate).mkdir(parents=True)
-    built = room / "crates/aidl/out/aidl"
-    built.parent.mkdir()
-    shutil.copy(program, built)
-    built.touch()
-    (room / "try").symlink_to(built)
+    kit = room / ".kit/bin"
+    kit.mkdir(parents=True)
+    (kit / "rt").write_text(f"#!/bin/sh\nmkdir -p crates/aidl/out && cp {shlex.quote(str(program))} crates/aidl/out/aidl\n")
+    (kit / "rt").chmod(0o755)
+    environment = {**os.environ, "PATH": f"{kit}:{os.environ['PATH']}"}
+    made = subprocess.run([room / "aidl", "check", "examples/lights/1"], cwd=room, env=environment, capture_output=True, text=True, check=False)
+    if made.returncode:
+        sys.exit(f"the folder for the commands of pages can't be made: {made.stderr}")
+    (room / "try").symlink_to(room / "crates/aidl/out/aidl")
+    return environment
 
 
 def printed(found, program):
     """What these commands print, one after the other in one folder."""
     with tempfile.TemporaryDirectory() as name:
-        furnish(pathlib.Path(name), program)
+        environment = furnish(pathlib.Path(name), program)
         script = "\n".join(f"{{ {command}\n}}; printf '{MARK}'" for _, command, _ in found)
-        run = subprocess.run(["sh", "-c", script], cwd=name, stdout=-1, stderr=-3, timeout=WAITS, check=False)
+        run = subprocess.run(["sh", "-c", script], cwd=name, env=environment, stdout=-1, stderr=-3, timeout=WAITS, check=False)
     return run.stdout.decode(errors="replace").split(MARK)[:-1]
 
 
