@@ -42,10 +42,14 @@ class Warned:
         return JAVA.format(self.place)
 
 
-def added(ends: Ends) -> list[Added]:
-    """What the new version has and the old one hasn't, type by type in the order of the dump. Of a new type only the type is listed."""
+def added(ends: Ends, broken: set[str]) -> list[Added]:
+    """What the new version has and the old one hasn't, type by type in the order of the dump. Of a new type only the type is listed. Of a type that is
+    broken no default is asked for, since other bytes are read in its place."""
     found = list(compared(ends))
-    tell_defaults(ends, [one for one in found if one.kind == "field"])
+    for one in found:
+        if one.kind == "field" and one.place.rpartition(".")[0] in broken:
+            one.means = f"values of {one.place.rpartition('.')[0]} are read otherwise: what breaks has it"
+    tell_defaults(ends, [one for one in found if one.kind == "field" and not one.means])
     tell_numbers(ends, [one for one in found if one.kind == "enumerator"])
     tell_members(ends, [one for one in found if one.kind == "union member"])
     tell_methods(ends, [one for one in found if one.kind == "method"])

@@ -63,9 +63,11 @@ class Cause:
         """What a user notices."""
         if self.shown is None:
             return self.none
+        if self.shown.silent and self.shown.misses:
+            return "silent: another method runs, and nothing fails"
         if self.shown.silent:
             return "silent: values are read as others, and nothing fails" if self.shown.rows else "silent: nothing fails"
-        return "the call fails" if self.shown.kind != "value" else "the value can't be read"
+        return {"call": "the call fails", "reply": "the reply can't be read", "value": "the value can't be read"}[self.shown.kind]
 
 
 def instead(about: Rule) -> str:
@@ -165,7 +167,10 @@ def carried(tree: Tree, names: set[str]) -> tuple[bool, bool]:
 
 def examples(ends: Ends, grouped: list[Group]) -> list[Optional[Shown]]:
     """Of each cause a call or a value: that of `witness`, or a request, a reply or a value made for it."""
-    shown = [of_witness(ends, group) for group in grouped]
+    shown = []
+    for number, group in enumerate(grouped, 1):
+        ends.room.progress.say(f"calls for break {number} of {len(grouped)}")
+        shown.append(of_witness(ends, group))
     wants = [(number, wanted) for number, group in enumerate(grouped) if shown[number] is None for wanted in group.wants]
     made = requests(ends, [wanted for _, wanted in wants])
     for (number, _), one in zip(wants, made):

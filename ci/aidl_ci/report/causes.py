@@ -182,8 +182,14 @@ def alone(old: Declaration, new: Optional[Declaration], entry: Entry) -> Group:
     if code == "C16":
         numbers = tuple((old.name, big_number(one)) for one in (old, new) if one)
         return Group(f"the backing type of {place} changed", [entry], [Wanted(frozenset([old.name]), None, numbers)])
-    told = {"C14": "@FixedSize of {} was added, removed or given more fields", "C18": "constant {} was taken out or changed", "C19": "an annotation of {} changed"}
-    return Group(told[code].format(place), [entry])
+    told = {"C14": f"{place}: {fixed_size(old, new)}", "C18": f"constant {place} {'changed' if new and member_of(entry) in new.members else 'is gone'}"}
+    return Group(told.get(code, f"an annotation of {place} changed"), [entry])
+
+
+def fixed_size(old: Declaration, new: Optional[Declaration]) -> str:
+    """What broke the promise of `@FixedSize`."""
+    had, has = (one is not None and "@FixedSize" in one.head for one in (old, new))
+    return "fields were added under @FixedSize" if had and has else "@FixedSize was taken off" if had else "@FixedSize was added"
 
 
 def an(word: str) -> str:
@@ -207,8 +213,9 @@ def of_interface(old: Declaration, new: Declaration, left: list[Entry]) -> Itera
         yield Group(f"{old.name}: {sentence}", mine, wants)
     for name in dict.fromkeys(member_of(one) for one in left):
         mine = [one for one in left if member_of(one) == name]
-        gone = mine[0].rule.code == "C3"
-        yield Group(f"{old.name}: method {name} {'is gone' if gone else 'changed'}", mine, [of_method(old, old.members[name])])
+        codes = {one.rule.code for one in mine}
+        told = f"method {name} is gone" if codes == {"C3"} else f"an annotation of method {name} changed" if codes == {"C19"} else f"method {name} changed"
+        yield Group(f"{old.name}: {told}", mine, [] if codes == {"C19"} else [of_method(old, old.members[name])])
 
 
 def of_method(one: Declaration, method: Member) -> Wanted:
@@ -246,9 +253,10 @@ def of_fields(old: Declaration, new: Declaration, left: list[Entry]) -> Iterator
         mine = [one for one in left if member_of(one) == name]
         codes = {one.rule.code for one in mine}
         became = dict(renamed or []).get(name)
-        told = f"became {became}" if became else "was added" if codes == {"C13"} else "has another default" if codes == {"C12"} else "changed"
+        told = f"{word} {name} {f'became {became}' if became else 'was added' if codes == {'C13'} else 'has another default' if codes == {'C12'} else 'changed'}"
+        told = f"an annotation of {word} {name} changed" if codes == {"C19"} else told
         wants = [] if codes <= {"C12", "C13", "C19"} else [shows(old, [name])]
-        yield Group(f"{old.name}: {word} {name} {told}", mine, wants, old.name if "C12" in codes else "")
+        yield Group(f"{old.name}: {told}", mine, wants, old.name if "C12" in codes else "")
 
 
 def shows(old: Declaration, names: list[str]) -> Wanted:

@@ -124,22 +124,29 @@ def record(ends: Ends, calls: list[Call]) -> list[Call]:
 
 
 def recorded(room: Room, tree: Tree, calls: list[Call]) -> list[Call]:
+    """The calls of one version with what was carried of each."""
     if not calls:
         return []
     path = room.file("".join(f"{one.line}\n" for one in calls))
-    left, parcels = list(calls), {}
-    for line in room.program.done("run", "--trace", tree.folder, tree.folder, path).lines:
+    found = list(outcomes(room.program.done("run", "--trace", tree.folder, tree.folder, path).lines))
+    if len(found) != len(calls):
+        raise Fault(f"run answered {len(found)} of {len(calls)} calls")
+    for one, (outcome, request, reply) in zip(calls, found):
+        one.outcome, one.request, one.reply = outcome, request, reply
+    return [one for one in calls if one.request]
+
+
+def outcomes(lines: list[str]) -> Iterator[tuple[str, str, str]]:
+    """Of each call of a trace its outcome, the line of its request, and the bytes of its reply in hexadecimal."""
+    parcels: dict[str, str] = {}
+    for line in lines:
         found = CARRIED.fullmatch(line)
         if found:
             parcels[found[1]] = line if found[1] == "request" else found[4]
-            continue
-        if not left or not isinstance(read_json(line), dict):
+        elif isinstance(read_json(line), dict):
+            yield line, parcels.pop("request", ""), parcels.pop("reply", "")
+        else:
             raise Fault(f"no line of run: {line}")
-        one = left.pop(0)
-        one.outcome, one.request, one.reply = line, parcels.pop("request", ""), parcels.pop("reply", "")
-    if left:
-        raise Fault(f"run answered {len(calls) - len(left)} of {len(calls)} calls")
-    return [one for one in calls if one.request]
 
 
 def read_json(line: str) -> Any:

@@ -12,7 +12,6 @@ from ..guard import Fault
 from .additions import Added, Warned, added, warned
 from .breaks import Cause, causes
 from .made import Ends
-from .progress import Progress
 from .trees import Room, Tree
 
 VERIFIED = re.compile(r"(\d+) (?:[0-9a-f]{40} ok|missing [0-9a-f]{40}|kept (?:-|(?:[0-9a-f]{2})+) [0-9a-f]{40})")
@@ -114,10 +113,11 @@ def of_trees(room: Room, title: str, trees: list[Tree], kept: list[str], notes: 
     if faulty:
         return Report(title, trees, kept, [], notes, faulty)
     pairs = list(zip(trees, trees[1:]))
-    progress = Progress(len(pairs))
     steps = []
-    for old, new in pairs:
-        progress.say(f"{old.title} to {new.title}")
+    for number, (old, new) in enumerate(pairs, 1):
+        room.progress.say(f"{old.title} to {new.title}, {number} of {len(pairs)}")
         ends = Ends(room, old, new)
-        steps.append(Step(old, new, causes(ends), added(ends), warned(ends)))
+        found = causes(ends)
+        broken = {place for cause in found for line in cause.lines for place in (line.rule.place, line.rule.place.rpartition(".")[0])}
+        steps.append(Step(old, new, found, added(ends, broken), warned(ends)))
     return Report(title, trees, kept, steps, notes)

@@ -17,6 +17,7 @@ from .text import UNPROVED, cut, origin
 
 HERE = pathlib.Path(__file__).resolve().parent
 TINTS = 6
+BOXES = 512  # bytes that are drawn
 
 
 def page(report: Report) -> str:
@@ -26,7 +27,7 @@ def page(report: Report) -> str:
     except ImportError as why:
         raise Fault("the page wants jinja2, which isn't there (Debian's python3-jinja2 is it)") from why
     room = jinja2.Environment(autoescape=True, undefined=jinja2.StrictUndefined, loader=jinja2.FileSystemLoader(str(HERE)), trim_blocks=True, lstrip_blocks=True, finalize=shown)
-    room.globals.update(source=source, ticks=ticks, instead=instead, phrase=phrase, origin=origin, cells=cells, rows=table, tints=tints, cut=cut, UNPROVED=UNPROVED)
+    room.globals.update(source=source, ticks=ticks, instead=instead, phrase=phrase, origin=origin, cells=cells, same=same, rows=table, tints=tints, cut=cut, UNPROVED=UNPROVED)
     style = (HERE / "page.css").read_text(encoding="utf-8")
     return room.get_template("page.html").render(report=report, style=jinja2.utils.markupsafe.Markup(style))
 
@@ -59,12 +60,21 @@ def tint(row: Row, of: dict[str, str]) -> str:
     return of.get(row.wrote.name, "p0") if row.wrote else "p0"
 
 
-def cells(example: Shown) -> Iterator[tuple[str, str]]:
-    """Each byte with the classes of its box."""
+def cells(example: Shown) -> list[list[tuple[str, str]]]:
+    """The bytes behind the token word by word, each with the classes of its box."""
     of = tints(example)
-    for row in example.rows:
-        if row.wrote is None or row.wrote.key != ("token",):
-            yield from ((f"{byte:02x}", tint(row, of) + (" x" if row.differs else "")) for byte in row.data)
+    boxes = [
+        (f"{byte:02x}", tint(row, of) + (" x" if row.differs else ""))
+        for row in example.rows
+        if row.wrote is None or row.wrote.key != ("token",)
+        for byte in row.data
+    ]
+    return [boxes[start : start + 4] for start in range(0, min(len(boxes), BOXES), 4)]
+
+
+def same(source_text: str, said: str) -> bool:
+    """A line of a source says just this."""
+    return plain(source_text).strip().rstrip(";,") == said
 
 
 def table(example: Shown) -> Iterator[dict[str, Any]]:

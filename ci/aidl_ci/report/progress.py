@@ -9,12 +9,13 @@ PATIENCE = 2.0  # seconds
 
 
 class Progress:
-    """Says each step once the patience is over; on a terminal in one line."""
+    """Says what is done from now on, once the patience is over and not more often."""
 
-    def __init__(self, steps: int):
-        self.steps, self.count, self.start = steps, 0, time.monotonic()
+    def __init__(self, name: str):
+        self.name, self.last = name, time.monotonic()
 
     def say(self, what: str) -> None:
-        self.count += 1
-        if time.monotonic() - self.start >= PATIENCE and sys.stderr is not None:
-            print(f"report: {self.count} of {self.steps}: {what}", file=sys.stderr, flush=True)
+        now = time.monotonic()
+        if now - self.last >= PATIENCE and sys.stderr is not None:
+            self.last = now
+            print(f"{self.name}: {what}", file=sys.stderr, flush=True)

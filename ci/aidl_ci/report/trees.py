@@ -11,13 +11,15 @@ from ..dump import Declaration, Member
 from ..guard import Fault
 from ..places import Places
 from ..program import Program
+from .progress import Progress
 
 
 class Room:
     """A folder for the files that the program is given, and the program."""
 
-    def __init__(self, program: Program, folder: str):
+    def __init__(self, program: Program, folder: str, name: str = "report"):
         self.program, self.folder, self.count = program, folder, 0
+        self.progress = Progress(name)
 
     def empty(self) -> str:
         """A new empty folder."""
@@ -37,6 +39,7 @@ class Tree:
 
     def __init__(self, room: Room, folder: str, title: str):
         self.folder, self.title = folder, title
+        room.progress.say(f"reading {title}")
         checked = room.program.verdict("check", folder)
         self.faults = verdicts.faults(checked.lines) if checked.status else []
         self.declarations: dict[str, Declaration] = {}

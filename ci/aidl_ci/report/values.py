@@ -13,6 +13,7 @@ from .trees import Tree
 DEPTH = 4  # nesting at which what may be null or empty is
 BACKING = re.compile(r'@Backing\(type="(byte|int|long)"\)')
 RANGES = {"byte": 1 << 7, "int": 1 << 31, "long": 1 << 63}
+MOST = 2000  # parts of a value, behind which the rest stays small
 BIG = {"byte": 100, "char": 50000, "int": 70000, "long": 1 << 33}
 
 
@@ -30,10 +31,10 @@ class Maker:
 
     def of(self, kind: Type, depth: int = 0) -> Any:
         """A value of a type, as JSON."""
-        if kind.nullable and (self.nulls or depth > DEPTH or (kind.base in self.tree.declarations and kind.base not in self.towards)):
+        small = depth > DEPTH or self.count > MOST or (kind.base in self.tree.declarations and kind.base not in self.towards)
+        if kind.nullable and (self.nulls or small):
             return None
         if kind.array or kind.listed:
-            small = depth > DEPTH or (kind.base in self.tree.declarations and kind.base not in self.towards)
             return [] if small else [self.of(kind.element(), depth + 1)]
         return self.declared(self.tree.declarations[kind.base], depth) if kind.base in self.tree.declarations else self.plain(kind.base)
 
@@ -54,7 +55,7 @@ class Maker:
             taken = self.chosen.get(one.name)
             member = next((each for each in fields if each.name == taken), fields[0])
             return {member.name: self.of(member.type, depth + 1)} if member.type else {}
-        if one.name not in self.towards:
+        if one.name not in self.towards or self.count > MOST:
             return {}
         return {each.name: self.of(each.type, depth + 1) for each in fields if each.type}
 
