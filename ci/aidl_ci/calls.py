@@ -28,7 +28,8 @@ class Trial:
     """The calls that were tried, and what differs: of calls that were made the first of each method, of calls of a file each."""
 
     ends: Ends
-    file: bool
+    file: bool = False
+    forward: bool = True  # of calls of a file: the client is the older version
     tried: int = 0
     found: dict[str, str] = field(default_factory=dict)
     failing: set[str] = field(default_factory=set)
@@ -43,24 +44,37 @@ class Trial:
             self.failing = self.failing - {head} if found[1] else self.failing | {head}
 
 
-def made_calls(tree: Tree, forward: bool) -> Iterator[Call]:
-    """Calls of all methods of a version: another value in each field, every enumerator and union member in turn, and null where it may be."""
+def made_calls(ends: Ends, forward: bool) -> Iterator[Call]:
+    """Calls of all methods of a version: another value in each field, every enumerator and union member in turn, and null where it may be. A new
+    version's union members that the old one lacks aren't sent: that they are refused breaks nothing."""
+    tree = ends.ends(forward)[0]
     for one in tree.declarations.values():
         for method in one.of_kind("method"):
-            for maker in makers(tree, one, method):
+            for maker in makers(ends, forward, method):
                 line: dict[str, Any] = {"call": f"{one.name}.{method.name}", "args": entry(maker, method)}
                 scripted = answer(maker, method)
                 yield Call(one.name, method, forward, json.dumps({**line, **({"answer": scripted} if scripted else {})}))
 
 
-def makers(tree: Tree, one: Declaration, method: Member) -> Iterator[Maker]:
+def makers(ends: Ends, forward: bool, method: Member) -> Iterator[Maker]:
+    tree = ends.ends(forward)[0]
     held = held_by(tree, method)
-    members = {name: [each.name for each in tree.declarations[name].members.values() if each.kind in ("enumerator", "field")] for name in held if tree.kind(name) in ("enum", "union")}
-    turns = min(MOST, max((len(names) for names in members.values()), default=1))
+    members = {name: members_of(tree.declarations[name], None if forward else ends.old.declarations.get(name)) for name in held}
+    turns = min(MOST, max((len(names) for names in members.values()), default=1) or 1)
+    chosen: dict[str, Any] = {}
     for turn in range(turns):
-        yield Maker(tree, held, {name: names[turn % len(names)] for name, names in members.items() if names})
-    yield Maker(tree, held, {}, nulls=True)
-    yield Maker(tree, held, {}, big=True)
+        chosen = {name: names[turn % len(names)] for name, names in members.items() if names}
+        yield Maker(tree, held, chosen)
+    yield Maker(tree, held, chosen, nulls=True)
+    yield Maker(tree, held, chosen, big=True)
+
+
+def members_of(one: Declaration, known: Optional[Declaration]) -> list[str]:
+    """The enumerators of an enum, or the members of a union, of which only those that the other version knows."""
+    if one.kind == "enum":
+        return [each.name for each in one.of_kind("enumerator")]
+    fields = one.of_kind("field") if one.kind == "union" else []
+    return [each.name for each in fields if known is None or each.name in known.members]
 
 
 def held_by(tree: Tree, method: Member) -> set[str]:
@@ -145,9 +159,9 @@ def as_meant(ends: Ends, forward: bool, batch: list[Reply]) -> bool:
 
 
 def of_file(trial: Trial, path: str) -> tuple[list[Call], list[Call]]:
-    """The calls of a file: those of the old version with their requests, and those of the new one with their replies. The answers in the file are by the
-    types of the new version, so where `run` refuses the pair the calls are recorded without them on the old one, and no reply is known."""
-    old, new = trial.ends.old, trial.ends.new
+    """The calls of a file: those of the client's version with their requests, and those of the service's with their replies. The answers in the file are by
+    the types of the service, so where `run` refuses the pair the calls are recorded without them on the client's version, and no reply is known."""
+    old, new = trial.ends.ends(trial.forward)
     with open(path, encoding="utf-8", errors="surrogateescape", newline="\n") as file:
         lines = file.read().split("\n")
     ran = trial.ends.room.program.verdict("run", "--trace", old.folder, new.folder, path)
@@ -165,10 +179,10 @@ def of_file(trial: Trial, path: str) -> tuple[list[Call], list[Call]]:
             trial.found[f"line {number}"] = f"refused, {told['refused']} at {told.get('at') or 'the line'}"
             continue
         interface, method = called(old, lines[int(number) - 1])
-        asked.append(Call(interface, method, True, number, request, reply, outcome))
+        asked.append(Call(interface, method, trial.forward, number, request, reply, outcome))
         theirs = new.member(f"{interface}.{method.name}") if new is not old else None
         if theirs is not None and reply:
-            answered.append(Call(interface, theirs, False, number, request, reply, outcome))
+            answered.append(Call(interface, theirs, not trial.forward, number, request, reply, outcome))
     return asked, answered
 
 
@@ -188,14 +202,22 @@ def called(tree: Tree, line: str) -> tuple[str, Member]:
     return name.rpartition(".")[0], method
 
 
-def tried(ends: Ends, path: Optional[str]) -> Trial:
-    """All calls of both versions, or those of a file."""
-    trial = Trial(ends, path is not None)
-    if path is not None:
-        asked, answered = of_file(trial, path)
-    else:
-        asked = record(ends, [one for forward in (True, False) for one in made_calls(ends.ends(forward)[0], forward)])
-        answered = asked
+def of_all(room: Room, old: Tree, new: Tree) -> Trial:
+    """All calls of both versions, made."""
+    trial = Trial(Ends(room, old, new))
+    calls = record(trial.ends, [one for forward in (True, False) for one in made_calls(trial.ends, forward)])
+    return tried(trial, calls, calls)
+
+
+def of_calls(room: Room, client: Tree, service: Tree, path: str) -> Trial:
+    """The calls of a file. The client is the older version, unless `judge` says so of the service."""
+    ways = [room.program.verdict("judge", one.folder, other.folder).status for one, other in ((client, service), (service, client))]
+    forward = ways != [1, 0]
+    trial = Trial(Ends(room, client, service) if forward else Ends(room, service, client), True, forward)
+    return tried(trial, *of_file(trial, path))
+
+
+def tried(trial: Trial, asked: list[Call], answered: list[Call]) -> Trial:
     requests(trial, asked)
     replies(trial, answered)
     trial.tried = len(asked)
@@ -204,8 +226,8 @@ def tried(ends: Ends, path: Optional[str]) -> Trial:
 
 def main(words: list[str]) -> int:
     reader = arguments("try-calls", "Tries calls from one version of a tree to the other, and says what is read otherwise, by the names of arguments and fields.")
-    reader.add_argument("old", metavar="OLD", help="the older tree, which makes the calls of CALLS")
-    reader.add_argument("new", metavar="NEW", help="the newer tree")
+    reader.add_argument("old", metavar="OLD", help="the older tree, or the one that makes the calls of CALLS")
+    reader.add_argument("new", metavar="NEW", help="the newer tree, or the one that answers them")
     reader.add_argument("calls", metavar="CALLS", nargs="?", help="a calls file (docs/CALLS.md); without one calls of all methods are made, from either version")
     reader.epilog = "Ends with 1 where a line is refused or an answer differs, 2 where that isn't known. That nothing differs is no verdict: judge has it."
     options = reader.parse_args(words)
@@ -216,7 +238,7 @@ def main(words: list[str]) -> int:
         for tree in trees:
             if tree.faults:
                 raise Fault(f"{tree.folder} isn't a checked tree: {tree.faults[0].path}:{tree.faults[0].offset}: {tree.faults[0].what}")
-        trial = tried(Ends(room, *trees), options.calls)
+        trial = of_all(room, *trees) if options.calls is None else of_calls(room, *trees, options.calls)
     for head, told in trial.found.items():
         print(plain(f"{head}: {told}"))
     end = "all are read as they were meant" if not trial.found else f"{len(trial.found)} of them differ or are refused" if trial.file else f"{len(trial.found)} differences"

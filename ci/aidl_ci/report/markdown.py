@@ -32,21 +32,22 @@ def words(text: str) -> str:
     return SPECIAL.sub(r"\\\1", plain(text)).replace("\\<", "&lt;").replace("\\&", "&amp;").replace("\\@", "&#64;")
 
 
-def code(text: str) -> str:
-    """Text as a code span, in a cell of a table too."""
+def code(text: str, cell: bool = False) -> str:
+    """Text as a code span, in a cell of a table or elsewhere."""
     said = plain(text).strip() or " "
     marks = "`" * (1 + max((len(run) for run in re.findall("`+", said)), default=0))
     pad = " " if "`" in said else ""
-    return f"{marks}{pad}{said}{pad}{marks}".replace("|", "\\|")
+    made = f"{marks}{pad}{said}{pad}{marks}"
+    return made.replace("|", "\\|") if cell else made
 
 
 def ticks(text: str) -> str:
     """Text of this repository's table of rules, in which code stands between backticks."""
-    return plain(text).replace("|", "\\|")
+    return plain(text)
 
 
 def at(place: Optional[Place]) -> str:
-    return code(place.at()) if place else "gone"
+    return code(place.at(), cell=True) if place else "gone"
 
 
 def whole(report: Report, tables: bool, most: Optional[int]) -> Iterator[str]:
@@ -79,7 +80,7 @@ def of_step(step: Step, tables: bool, most: Optional[int], last: bool) -> Iterat
     if step.added:
         yield from ("", f"<details{' open' if last and not step.causes else ''}><summary>What is new: {name}, {len(step.added)}</summary>", "", "| New | What the other version makes of it | At |", "|---|---|---|")
         kept = step.added if most is None else step.added[:most]
-        yield from (f"| {one.kind} {code(one.place)}: {code(one.text)} | {words(one.means)} | {at(one.at)} |" for one in kept)
+        yield from (f"| {one.kind} {code(one.place)}: {code(one.text, cell=True)} | {words(one.means)} | {at(one.at)} |" for one in kept)
         yield from ("", "</details>")
     if step.warned:
         yield from ("", *(f"- ⚠ {words(one.says())} ({at(one.at)})" for one in step.warned))
@@ -89,7 +90,7 @@ def of_cause(number: int, cause: Cause, tables: bool) -> Iterator[str]:
     yield from (f"**{number}. {words(cause.head)}** (hurts {words(cause.hurt)})", "")
     yield from ("| Line | | Old | New |", "|---|---|---|---|")
     for line in cause.lines:
-        sides = (f"{code(said) if said else ''} {at(place)}".strip() for place, said in ((line.old, line.old_text), (line.new, line.new_text)))
+        sides = (f"{code(said, cell=True) if said else ''} {at(place)}".strip() for place, said in ((line.old, line.old_text), (line.new, line.new_text)))
         yield f"| {code(line.rule.line())} | {words(line.about.phrase)} | {' | '.join(sides)} |"
     yield ""
     for about in {line.about.code: line.about for line in cause.lines}.values():
