@@ -10,7 +10,7 @@ from typing import Optional
 from ..guard import Fault, Stop, arguments
 from ..printing import use_utf8
 from ..program import Program
-from . import keeping, unfrozen
+from . import beside, keeping, unfrozen
 from .judging import ADVICE, Judge
 from .log import Log
 
@@ -26,7 +26,7 @@ def options_of(words: list[str]) -> argparse.Namespace:
     reader.add_argument("base", metavar="BASE", nargs="?", help="the git revision whose frozen versions have to be as they were")
     reader.add_argument("--frozen", action="store_true", help="refuse a tree that isn't what the latest version has: for a release branch")
     reader.add_argument("--against", metavar="REV", help="judge the tree of this git revision against TREE too; that is a note, and no verdict")
-    reader.add_argument("--report", metavar="DIR", help="write the report of the last two trees into this folder")
+    reader.add_argument("--report", metavar="DIR", help="write the report of the last two trees that are judged into this folder")
     return reader.parse_intermixed_args(words)
 
 
@@ -69,7 +69,11 @@ class Job:
         self.want_yes(self.version(latest), self.tree)
 
     def want_yes(self, old: str, new: str) -> None:
-        if not self.judge.judge(old, new):
+        """Ends the job where a tree may not follow another. The report is of the two trees that it ends with."""
+        yes = self.judge.judge(old, new)
+        if self.options.report is not None and (not yes or new == self.tree):
+            beside.leave(self.judge, self.options.report, old, new, not yes)
+        if not yes:
             raise Stop(1, f"aidl judge {old} {new} ended with exit 1; {ADVICE}")
 
 
