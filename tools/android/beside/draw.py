@@ -7,6 +7,8 @@ from .trees import Argument, Constant, Declaration, Enumerator, Field, Method, T
 PRIMITIVES = ["boolean", "byte", "char", "int", "long"]
 # what Android 14's compiler refuses and the program reads; each is drawn only where it is asked for
 FEATURES = ("no import", "vintf", "const kinds", "annotation first", "bare union", "list default", "dropped annotation")
+# what Android 14's dump keeps and that of the program drops; drawn where "dressed" is asked for
+WORN = ["@JavaDerive(toString=true)", "@RustDerive(Debug=true)", "@UnsupportedAppUsage", "/** @hide */", "/** @deprecated for a reason */"]
 DROPPED = ['@JavaDerive(toString=true)', '@RustDerive(Clone=true)', "@JavaOnlyImmutable", '@SuppressWarnings(value={"x"})', "@Hide", "@SensitiveData"]
 
 
@@ -33,7 +35,7 @@ class Drawer:
 
     def tree(self, size: int) -> Tree:
         """A tree of so many declarations at the top."""
-        made = Tree(self.package, imports=not self.has("no import", 0.7))
+        made = Tree(self.package, imports=not self.has("no import", 0.7), comment="/* a licence */\n" if self.has("dressed") else "")
         for _ in range(size):
             made.declarations.append(self.declaration(self.package, 0))
         return made
@@ -51,9 +53,19 @@ class Drawer:
             made.annotations.append("@VintfStability")
         if self.has("dropped annotation", 0.4) and made.kind in ("parcelable", "union"):
             made.annotations.append(self.dice.choice(DROPPED))
+        if self.has("dressed", 0.5):
+            self.dress(made)
         if made.kind != "interface":
             self.known.append((name, made))
         return made
+
+    def dress(self, made: Declaration) -> None:
+        """Annotations and comments that no byte of a call depends on."""
+        worn = WORN if made.kind in ("parcelable", "union") else WORN[2:]
+        made.annotations = self.dice.sample(worn[::-1], 1) + made.annotations
+        for member in made.members:
+            if made.kind != "enum" and self.may(0.3):
+                member.annotations.insert(0, self.dice.choice(WORN[2:]))
 
     def parcelable(self, made: Declaration) -> None:
         """Fields, of a fixed size now and then."""

@@ -4,13 +4,14 @@ Trees: those of the program's rows, a smallest one of each class, random good on
 and the real files of Android's sources. Each tree that one of the two alone reads has to belong to classes of `classes/language.json`."""
 import functools
 import pathlib
+import re
 import sys
-from typing import Dict, Iterator, List
+from typing import Dict, Iterator, List, Tuple
 
 from .base import TOP, Counts, Options, Trial
 from .classes import Class, classes
 from .misses import KINDS
-from .pairs import with_imports
+from .pairs import below, with_imports
 from .reading import refused_by_ours, refused_by_theirs
 from .readings import Case, Reading, alone, in_batches, one_by_one
 from .tools import aosp, program, scratch, source, write_tree
@@ -75,22 +76,34 @@ def compare_meanings(options: Options, name: str, row: Class, counts: Counts) ->
 
 
 def row_cases() -> Iterator[Case]:
-    """The trees of the rows: what stands below each folder that a row names. A row whose words name no folder of sources is left out."""
+    """The trees of the rows: what stands below each folder that a run names, and the files of each case of a table of trees."""
     sys.path.insert(0, str(TOP / "tools/check"))
     rows, seen = __import__("rows"), set()
+    for name, files in [*trees_of_runs(rows), *trees_of_tables(rows)]:
+        key = repr(sorted(files.items()))
+        if files and key not in seen and all(re.fullmatch(r"\w+", part) for path in files for part in path[:-5].split("/")):
+            seen.add(key)
+            yield Case(name[:80], with_imports(files))
+
+
+def trees_of_runs(rows: "module") -> Iterator[Tuple[str, Dict[str, str]]]:
+    """What stands below each folder that a run names, without the frozen versions of an API."""
     for name, run in rows.runs():
-        if run.fails or not run.can_be_laid():
-            continue
-        for folder in {word.decode("utf-8", "replace") for word in run.words}:
-            files: Dict[str, str] = {}
-            for path, text in run.files:
-                at = path.decode("utf-8", "surrogateescape")
-                if at.startswith(folder + "/") and at.endswith(".aidl") and not at[len(folder) + 1:].split("/")[0].isdigit():
-                    files.setdefault(at[len(folder) + 1:], text.decode("utf-8", "surrogateescape"))
-            key = repr(sorted(files.items()))
-            if files and key not in seen and all(part.replace("_", "").replace(".", "").isalnum() for path in files for part in path.split("/")):
-                seen.add(key)
-                yield Case(name[:80], with_imports(files))
+        for folder in {word.decode("utf-8", "replace") for word in run.words} if not run.fails and run.can_be_laid() else ():
+            files = below(run.files, folder)
+            yield name, {path: text for path, text in files.items() if not path.split("/")[0].isdigit()}
+
+
+def trees_of_tables(rows: "module") -> Iterator[Tuple[str, Dict[str, str]]]:
+    """The files of each case of a table of names, constants or types."""
+    for path in sorted(TOP.glob("crates/worked_rows/data/*.rows")):
+        for block in path.read_text().split("\n\n"):
+            lines = block.split("\n")
+            kind = next((line.split(" ")[0] for line in lines if line and not line.startswith("#")), "")
+            for case in filter(None, map(rows.case_of, lines)) if kind in ("names", "constants", "types") else ():
+                files = [file.split(": ", 1) for file in case[0].split(" || ")]
+                texts = {rows.plain(file[0]).decode(): rows.plain(file[1]).decode("utf-8", "surrogateescape") for file in files if len(file) == 2}
+                yield f"{path.name}: {case[0]}", {name: text for name, text in texts.items() if name.endswith(".aidl")}
 
 
 def random_cases(seed: int, count: int) -> Dict[str, List[Case]]:

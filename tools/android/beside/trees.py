@@ -132,6 +132,7 @@ class Tree:
     package: str
     declarations: List[Declaration] = dataclasses.field(default_factory=list)
     imports: bool = True
+    comment: str = ""
 
     def walk(self) -> Iterator[Tuple[str, Declaration]]:
         """Each declaration with its canonical name, outer ones first."""
@@ -152,7 +153,7 @@ class Tree:
             imports = "".join(f"import {self.package}.{other};\n" for other in others) if self.imports else ""
             text = "\n".join(declaration.lines()) + "\n"
             text = text if self.imports else text.replace(self.package + ".", "")
-            made[f"{self.package.replace('.', '/')}/{declaration.name}.aidl"] = f"package {self.package};\n{imports}" + text
+            made[f"{self.package.replace('.', '/')}/{declaration.name}.aidl"] = f"{self.comment}package {self.package};\n{imports}" + text
         return made
 
     def copy(self) -> "Tree":
