@@ -8,7 +8,7 @@ PRIMITIVES = ["boolean", "byte", "char", "int", "long"]
 # what Android 14's compiler refuses and the program reads; each is drawn only where it is asked for
 FEATURES = ("no import", "vintf", "const kinds", "annotation first", "bare union", "list default", "dropped annotation")
 # what Android 14's dump keeps and that of the program drops; drawn where "dressed" is asked for
-WORN = ["@JavaDerive(toString=true)", "@RustDerive(Debug=true)", "@UnsupportedAppUsage", "/** @hide */", "/** @deprecated for a reason */"]
+WORN = ["@JavaDerive(toString=true)", "@JavaDerive(equals=true)", "@UnsupportedAppUsage", "/** @hide */", "/** @deprecated for a reason */"]
 DROPPED = ['@JavaDerive(toString=true)', '@RustDerive(Clone=true)', "@JavaOnlyImmutable", '@SuppressWarnings(value={"x"})', "@Hide", "@SensitiveData"]
 
 

@@ -7,7 +7,7 @@ from .trees import Argument, Constant, Declaration, Enumerator, Field, Method, T
 
 Edit = Callable[["Editor"], bool]
 # annotations that no reader of bytes sees, and that Android 14's compiler takes at a parcelable and at a union
-UNSEEN = ["@JavaDerive(toString=true)", "@RustDerive(Debug=true)", "@UnsupportedAppUsage"]
+UNSEEN = ["@JavaDerive(toString=true)", "@JavaDerive(equals=true)", "@UnsupportedAppUsage"]
 
 
 class Editor:

@@ -12,7 +12,7 @@ from .classes import classes
 from .dumped import fields, without_heap, without_nullable
 from .pairs import Answer, Pair, Verdict, alone, in_batches, laid, one_by_one, random_pairs, row_pairs
 from .reading import explained_pair
-from .tools import program, scratch
+from .tools import program, scratch, write_tree
 
 PAIRS = 5200
 # the figures in the order in which they are printed
@@ -89,9 +89,15 @@ def refused_there(options: Options, verdict: Verdict) -> Tuple[Set[str], List[st
 
 
 def shown(options: Options, pair: Pair) -> bool:
-    """Whether `witness` prints a call that goes wrong."""
+    """Whether `witness` prints a call that goes wrong. An interface that carries each type of both versions is put into both trees."""
     with scratch() as room:
         laid(room, pair)
+        for side in ("old", "new"):
+            program(options, "dump", side, f"{side}.dump", cwd=room)
+        names = sorted(set(fields(room / "old.dump")) & set(fields(room / "new.dump")))
+        methods = " ".join(f"void carry{number}(in {name} value);" for number, name in enumerate(names))
+        for side in ("old", "new"):
+            write_tree(room / side, {"carrying/ICarry.aidl": f"package carrying; interface ICarry {{ {methods} }}"})
         return any(line.startswith("call ") for line in program(options, "witness", "old", "new", cwd=room).lines)
 
 
