@@ -26,6 +26,7 @@ class Stop(Exception):
 
 def run(main: Callable[[list[str]], int]) -> NoReturn:
     """Runs a command on the arguments of the process, and ends the process with its exit: 2 for whatever is raised but `Stop`."""
+    read_utf8()
     name = os.path.basename(sys.argv[0])
     status = FAULT
     try:
@@ -42,6 +43,12 @@ def run(main: Callable[[list[str]], int]) -> NoReturn:
     except Exception as why:  # pylint: disable=broad-except
         complain(f"{name}: a fault of this script, {type(why).__name__}: {why}")
     leave(status)
+
+
+def read_utf8() -> None:
+    """Starts Python once more where it reads names of files by the letters of another locale than those of UTF-8."""
+    if sys.getfilesystemencoding().lower() not in ("utf-8", "utf8") and sys.executable:
+        os.execv(sys.executable, [sys.executable, "-X", "utf8", *sys.argv])
 
 
 def arguments(name: str, description: str) -> argparse.ArgumentParser:

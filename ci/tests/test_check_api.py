@@ -364,13 +364,17 @@ def test_a_room_that_is_missing(scratch):
     assert scratch.job("--frozen", "hal", "api", "base", TMPDIR="/nowhere").status == 0
 
 
-@pytest.mark.parametrize("locale", ["C", "POSIX", "C.UTF-8", "en_US.ISO-8859-1", "none"])
-def test_the_locale_does_not_matter(scratch, locale):
+@pytest.mark.parametrize("utf8", ["", "0"])
+@pytest.mark.parametrize("locale", ["C", "POSIX", "C.UTF-8", "none"])
+def test_the_locale_does_not_matter(scratch, locale, utf8):
     (scratch.room / "api").rename(scratch.room / "ä pi")
     scratch.commit()
     scratch.tree(1)
-    came = scratch.job("hal", "ä pi", "HEAD", LC_ALL=locale)
+    came = scratch.job("hal", "ä pi", "HEAD", LC_ALL=locale, PYTHONUTF8=utf8, PYTHONCOERCECLOCALE="0")
     assert came.status == 1 and came.says("10 files of 2 frozen versions", f"aidl judge ä pi/2 hal\n{VERDICT}"), came
+    (scratch.room / "ä pi/1/.hash").unlink()
+    came = scratch.job("hal", "ä pi", "HEAD", LC_ALL=locale, PYTHONUTF8=utf8, PYTHONCOERCECLOCALE="0")
+    assert came.status == 1 and came.says("git checkout HEAD -- 'ä pi/1'\n"), came
 
 
 def test_it_ends_at_once_when_it_is_ended(scratch):

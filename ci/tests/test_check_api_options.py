@@ -51,8 +51,10 @@ def test_against(scratch):
     scratch.commit()
     scratch.tree(2)
     came = scratch.job("--against", "main", "hal", "api", "base")
-    wanted = f"note: aidl judge main:hal hal\nnote: {VERDICT}\nnote: that is no verdict: main isn't frozen\n"
+    wanted = f"note: aidl judge main:hal hal\nnote: {VERDICT} (field removed)\nnote: that is no verdict: main isn't frozen\n"
     assert came.status == 0 and came.says("ok 4 types\n" + wanted), came
+    came = scratch.job("--against", "main", "hal", "api", "base", GITHUB_ACTIONS="true")
+    assert came.status == 0 and came.says("::notice file=hal/lights/LightState.aidl,line=") and "::error" not in came.printed, came
     came = scratch.job("--against", "base", "hal", "api", "base")
     assert came.status == 0 and came.says("note: aidl judge base:hal hal\nnote: yes\nnote: nothing that isn't frozen breaks it\n"), came
 

@@ -7,7 +7,7 @@ import shutil
 import subprocess
 
 import pytest
-from scratch import Scratch
+from scratch import JOB, Scratch
 
 SAME = "10 files of 2 frozen versions, all as they are in "
 FORGED = ["M\tapi/1/.hash\n", "M\tapi/1/lights/LightState.aidl\n", "M\tapi/2/.hash\n", "M\tapi/2/lights/LightState.aidl\n"]
@@ -182,8 +182,6 @@ def test_two_modules(scratch):
     shutil.copytree(scratch.room / "m/lights_api", scratch.room / "m/power_api")
     scratch.commit()
     loop = 'for api in m/*_api; do "$0" "${api%_api}" "$api" HEAD || exit; done'
-    from scratch import JOB
-
     came = scratch.job("-c", loop, JOB, job="sh")
     assert came.status == 0 and came.printed.count(SAME) == 2, came
     (scratch.room / "m/power_api/1/.hash").write_text("\n")
@@ -353,9 +351,6 @@ def test_two_branches_that_froze_one_number(scratch, resolved):
     scratch.git("clone", "-q", ".", str(clone))
     came = Scratch(clone, scratch.program).job("hal", "api", "origin/main")
     assert came.status == 0, came
-
-
-REPOSITORIES = {}
 
 
 def test_outside_a_repository(tmp_path, scratch):

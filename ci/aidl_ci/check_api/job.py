@@ -41,7 +41,8 @@ class Job:
         self.judge.check(self.tree)
         if self.options.against is not None:
             unfrozen.against(self.judge, self.tree, self.options.against)
-        kept = keeping.compare(self.judge, self.tree, self.api, self.base) if self.base is not None else None
+        freeze = self.judge.command("freeze", self.tree, self.api)
+        kept = keeping.compare(self.log, self.api, self.base, freeze) if self.base is not None else None
         latest = self.judge.verify(self.api)
         if latest == 0:
             self.before_the_first_freeze(kept)

@@ -7,8 +7,7 @@ from typing import Iterator
 
 from ..guard import Fault, Stop
 from .frozen import Compared, Comparison
-from .judging import Judge
-from .log import quoted
+from .log import Log, quoted
 from .repository import Repository, text
 
 SHORT = 12  # digits of a commit that are shown
@@ -28,8 +27,8 @@ def counted(number: int, noun: str) -> str:
 class Keeping:
     """The frozen versions of an API beside those of BASE."""
 
-    def __init__(self, judge: Judge, tree: str, api: str, base: str):
-        self.log, self.api, self.base, self.freeze = judge.log, api, base, judge.command("freeze", tree, api)
+    def __init__(self, log: Log, api: str, base: str, freeze: str):
+        self.log, self.api, self.base, self.freeze = log, api, base, freeze
         self.log.show(f"compare {api} with {base}")
         if not is_plain(api):
             raise Fault(f"{api} is or goes through a link: name the folder itself")
@@ -106,6 +105,6 @@ class Keeping:
         yield self.freeze
 
 
-def compare(judge: Judge, tree: str, api: str, base: str) -> int:
-    """Ends the job where a frozen version isn't as BASE has it; else how many files are."""
-    return Keeping(judge, tree, api, base).compared()
+def compare(log: Log, api: str, base: str, freeze: str) -> int:
+    """Ends the job where a frozen version isn't as BASE has it; else how many files are. `freeze` is the command that freezes a new version."""
+    return Keeping(log, api, base, freeze).compared()

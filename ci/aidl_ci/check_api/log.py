@@ -93,5 +93,7 @@ class Log:
                 if annotated:
                     self.annotate(said, place=finder.find(rule.place) if finder and self.github else None)
                 continue
-            for number, part in enumerate(of_line(line, words=True, github=annotated and self.github)):
-                self.say(part) if part.startswith("::error") and number else self.show(part)
+            first, *more = of_line(line, words=True, github=annotated and self.github)
+            self.show(first)
+            for part in more:
+                (self.say if part.startswith("::error") else self.show)(part)

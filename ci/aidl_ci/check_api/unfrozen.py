@@ -8,8 +8,11 @@ import tempfile
 from typing import Iterator
 
 from ..dump import sources
-from ..guard import Stop
+from ..guard import Fault, Stop
+from ..lines import with_phrase
+from ..verdicts import rule_line
 from .judging import Judge
+from .log import Finder
 from .repository import Repository, text
 
 FILES = ("100644", "100755")
@@ -52,6 +55,8 @@ def take(repository: Repository, commit: str, inside: bytes, room: str) -> int:
     """Writes the sources that a commit has below a path from the top; how many there are."""
     start = inside + b"/" if inside else b""
     found = [entry for entry in repository.entries(commit) if entry.path.startswith(start) and entry.path.endswith(b".aidl") and entry.mode in FILES]
+    if any({b"..", b".", b""} & set(entry.path.split(b"/")) for entry in found):
+        raise Fault("the revision has a path that leads out of its folder")
     for entry, data in zip(found, repository.contents(found)):
         path = os.path.join(os.fsencode(room), entry.path[len(start) :])
         os.makedirs(os.path.dirname(path), exist_ok=True)
@@ -71,6 +76,12 @@ def against(judge: Judge, tree: str, revision: str) -> None:
             judge.log.show(f"note: {revision} has no sources there")
             return
         ran = judge.program.run("judge", room, tree)
+    finder = Finder(tree)
     for line in ran.lines:
-        judge.log.show(f"note: {line.replace(room, f'{revision}:{text(inside)}')}")
-    judge.log.show("note: " + ("nothing that isn't frozen breaks it" if ran.status == 0 else f"that is no verdict: {revision} isn't frozen"))
+        rule = rule_line(line)
+        said = with_phrase(line, rule.code) if rule else line.replace(room, f"{revision}:{text(inside)}")
+        judge.log.show(f"note: {said}")
+        if rule:
+            judge.log.annotate(f"{revision}, which isn't frozen: {said}", "notice", finder.find(rule.place) if judge.log.github else None)
+    ends = {0: "nothing that isn't frozen breaks it", 1: f"that is no verdict: {revision} isn't frozen"}
+    judge.log.show(f"note: {ends.get(ran.status) or ran.ended().replace(room, revision)}")
