@@ -3,7 +3,7 @@ import json
 import re
 from typing import Any, Dict
 
-from .base import HERE, Options
+from .base import HERE, TOP, Counts, Options
 
 Class = Dict[str, Any]
 
@@ -21,3 +21,21 @@ def classes(options: Options, table: str) -> Dict[str, Class]:
         if "files" in row:
             row["files"] = {path: repeated(source) for path, source in row["files"].items()}
     return rows
+
+
+def heading_of(line: str) -> str:
+    """The anchor of a heading: what a link to it says behind #."""
+    return re.sub(r"[^\w -]", "", line.lstrip("# ").lower()).replace(" ", "-")
+
+
+def compare_page(options: Options, table: str, counts: Counts) -> None:
+    """Each class stands on its page, below the heading that the table names; the classes of the page are those of the table."""
+    for name, row in classes(Options(options.program, options.home), table).items():
+        page, _, anchor = row["page"].partition("#")
+        part, told = "", False
+        for line in (TOP / page).read_text(encoding="utf-8").split("\n"):
+            part = heading_of(line) if line.startswith("#") else part
+            told = told or (part == anchor and f"`{name}`" in line)
+        counts.add("classes that a page tells", int(told))
+        if not told:
+            counts.differ("no row of", row["page"], "tells", name)

@@ -11,7 +11,7 @@ import re
 from typing import Dict, Iterator, List, Sequence
 
 from .base import Counts, Options, Trial
-from .classes import classes
+from .classes import classes, compare_page
 from .draw import draw_tree
 from .language import real_cases, row_cases
 from .pairs import JOBS, errors, paths
@@ -184,6 +184,7 @@ def both_read(readings: Iterator[Reading]) -> List[Case]:
 def run(options: Options) -> Counts:
     """All trees."""
     counts = Counts()
+    compare_page(options, "dumps", counts)
     counts.join(compare_examples(options))
     cases = random_cases(options.seed, options.amount(TREES))
     work = [(cases[first:first + BATCH], "random trees") for first in range(0, len(cases), BATCH)]

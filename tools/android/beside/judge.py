@@ -8,7 +8,7 @@ import re
 from typing import Iterator, List, Set, Tuple
 
 from .base import Counts, Options, Trial
-from .classes import classes
+from .classes import classes, compare_page
 from .dumped import fields, without_heap, without_nullable
 from .pairs import Answer, Pair, Verdict, alone, in_batches, laid, one_by_one, random_pairs, row_pairs
 from .reading import explained_pair
@@ -174,6 +174,7 @@ def run(options: Options) -> Counts:
     counts = Counts()
     for words in FIGURES:
         counts.add(words, 0)
+    compare_page(options, "judge", counts)
     counts.join(compare_examples(options))
     for verdict in one_by_one(options, list(row_pairs())):
         counts.add("pairs of rows")

@@ -9,7 +9,7 @@ import sys
 from typing import Dict, Iterator, List, Tuple
 
 from .base import TOP, Counts, Options, Trial
-from .classes import Class, classes
+from .classes import Class, classes, compare_page
 from .misses import KINDS
 from .pairs import below, with_imports
 from .reading import refused_by_ours, refused_by_theirs
@@ -136,6 +136,7 @@ def run(options: Options) -> Counts:
     counts = Counts()
     for words in ("random trees", "trees of rows", "real files", "Android 14's compiler aborts"):
         counts.add(words, 0)
+    compare_page(options, "language", counts)
     counts.join(compare_examples(options))
     for kind, cases in random_cases(options.seed, options.amount(TREES)).items():
         for reading in in_batches(options, cases) if kind == "good" else one_by_one(options, cases):

@@ -88,7 +88,7 @@ def split(text: str, sign: str = ",") -> List[str]:
     plain = re.sub(r"/\*.*?\*/", lambda part: " " * len(part[0]), outside_texts(text))
     parts, first, depth = [], 0, 0
     for place, letter in enumerate(plain):
-        depth += (letter in "({<[") - (letter in ")}>]")
+        depth += (letter in "({[") - (letter in ")}]")
         if letter == sign and depth == 0:
             parts.append(text[first:place].strip())
             first = place + 1
