@@ -8,7 +8,7 @@ import re
 from typing import Iterator, List, Set, Tuple
 
 from .base import Counts, Options, Trial
-from .classes import classes, compare_page
+from .classes import classes, compare_page, page_trial
 from .dumped import fields, without_heap, without_nullable
 from .pairs import Answer, Pair, Verdict, alone, in_batches, laid, one_by_one, random_pairs, row_pairs
 from .reading import explained_pair
@@ -187,6 +187,7 @@ def run(options: Options) -> Counts:
 
 def trials(options: Options) -> Iterator[Trial]:
     """Each class left out, and each answer turned once."""
+    yield page_trial(options, "judge")
     for name in [*classes(options, "judge"), "judge", "--checkapi", "decode"]:
         kind = "one answer turned, " if name in ("judge", "--checkapi", "decode") else "without the class "
         yield Trial(kind + name, functools.partial(compare_examples, options.sabotaged(name)))
