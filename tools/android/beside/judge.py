@@ -138,7 +138,8 @@ def tell(counts: Counts, found: Set[str], rest: List[str], where: str, verdict: 
     for name in sorted(found):
         counts.detail(f"of the class {name}")
     if rest or not found:
-        counts.differ(where, verdict.pair.old, verdict.pair.new, "the program:", verdict.ours.lines[:6], "Android 14:", verdict.theirs.lines[:6], "left:", rest[:6])
+        counts.differ(where, verdict.pair.old, verdict.pair.new, "the program:", verdict.ours.lines[:6], "Android 14:", verdict.theirs.lines[:6],
+                      "left:", rest[:6])
 
 
 def compare_examples(options: Options) -> Counts:
