@@ -3,7 +3,7 @@ import json
 import re
 from typing import Any, Dict
 
-from .base import HERE, TOP, Counts, Options
+from .base import HERE, TOP, Counts, Options, Trial
 
 Class = Dict[str, Any]
 
@@ -36,6 +36,16 @@ def compare_page(options: Options, table: str, counts: Counts) -> None:
         for line in (TOP / page).read_text(encoding="utf-8").split("\n"):
             part = heading_of(line) if line.startswith("#") else part
             told = told or (part == anchor and f"`{name}`" in line)
+        told = options.turn("page", "told" if told else "not told") == "told"
         counts.add("classes that a page tells", int(told))
         if not told:
             counts.differ("no row of", row["page"], "tells", name)
+
+
+def page_trial(options: Options, table: str) -> Trial:
+    """One row of the page is taken for gone."""
+    def compare() -> Counts:
+        counts = Counts()
+        compare_page(options.sabotaged("page"), table, counts)
+        return counts
+    return Trial("one row of the page gone", compare)

@@ -11,7 +11,7 @@ import re
 from typing import Dict, Iterator, List, Sequence
 
 from .base import Counts, Options, Trial
-from .classes import classes, compare_page
+from .classes import classes, compare_page, page_trial
 from .draw import draw_tree
 from .language import real_cases, row_cases
 from .pairs import JOBS, errors, paths
@@ -200,6 +200,7 @@ def run(options: Options) -> Counts:
 
 def trials(options: Options) -> Iterator[Trial]:
     """Each rule left out, and each answer turned once."""
+    yield page_trial(options, "dumps")
     for name in classes(options, "dumps"):
         yield Trial(f"without the rule {name}", functools.partial(compare_examples, options.sabotaged(name)))
     for name in ("dump", "read here", "read there"):

@@ -8,7 +8,7 @@ import re
 from typing import Iterator, List, Set, Tuple
 
 from .base import Counts, Options, Trial
-from .classes import classes, compare_page
+from .classes import classes, compare_page, page_trial
 from .dumped import fields, without_heap, without_nullable
 from .pairs import Answer, Pair, Verdict, alone, in_batches, laid, one_by_one, random_pairs, row_pairs
 from .reading import explained_pair
@@ -138,7 +138,8 @@ def tell(counts: Counts, found: Set[str], rest: List[str], where: str, verdict: 
     for name in sorted(found):
         counts.detail(f"of the class {name}")
     if rest or not found:
-        counts.differ(where, verdict.pair.old, verdict.pair.new, "the program:", verdict.ours.lines[:6], "Android 14:", verdict.theirs.lines[:6], "left:", rest[:6])
+        counts.differ(where, verdict.pair.old, verdict.pair.new, "the program:", verdict.ours.lines[:6], "Android 14:", verdict.theirs.lines[:6],
+                      "left:", rest[:6])
 
 
 def compare_examples(options: Options) -> Counts:
@@ -187,6 +188,7 @@ def run(options: Options) -> Counts:
 
 def trials(options: Options) -> Iterator[Trial]:
     """Each class left out, and each answer turned once."""
+    yield page_trial(options, "judge")
     for name in [*classes(options, "judge"), "judge", "--checkapi", "decode"]:
         kind = "one answer turned, " if name in ("judge", "--checkapi", "decode") else "without the class "
         yield Trial(kind + name, functools.partial(compare_examples, options.sabotaged(name)))

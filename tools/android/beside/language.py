@@ -9,7 +9,7 @@ import sys
 from typing import Dict, Iterator, List, Tuple
 
 from .base import TOP, Counts, Options, Trial
-from .classes import Class, classes, compare_page
+from .classes import Class, classes, compare_page, page_trial
 from .misses import KINDS
 from .pairs import below, with_imports
 from .reading import refused_by_ours, refused_by_theirs
@@ -146,6 +146,8 @@ def run(options: Options) -> Counts:
         for reading in one_by_one(options, cases):
             counts.add(words)
             weigh(options, reading, counts, words)
+            if words == "real files" and reading.ours.lines:
+                counts.detail("real files: the first line of check is " + (reading.ours.lines[0].split(": ") + [""])[1])
     return counts
 
 
@@ -156,4 +158,5 @@ def trials(options: Options) -> Iterator[Trial]:
             yield Trial(f"one answer turned, meaning of {name}", functools.partial(compare_examples, options.sabotaged(f"meaning of {name}")))
         else:
             yield Trial(f"without the class {name}", functools.partial(compare_examples, options.sabotaged(name)))
+    yield page_trial(options, "language")
     yield Trial("one answer turned, check", functools.partial(compare_examples, options.sabotaged("check")))

@@ -1,8 +1,9 @@
 """Trees that are near to good ones: one thing of a good tree is made wrong, or its tokens are changed."""
 import random
 import re
-from typing import Callable, Dict
+from typing import Callable, Dict, List, Tuple
 
+from .base import HERE
 from .draw import FEATURES, draw_tree
 from .edits import Editor
 from .readings import Case
@@ -29,42 +30,20 @@ def add(edit: Editor, line: str, *kinds: str) -> bool:
     return True
 
 
-# each of these lines makes a tree wrong, here or there; the words in front are the kinds of declaration that take it
-LINES = [
-    ("parcelable", "int twice; int twice;"), ("parcelable", "const int TWICE = 1; const int TWICE = 2;"), ("interface", "void twice(); void twice(int a);"),
-    ("parcelable union", "Missing missing;"), ("parcelable", "other.Missing missing;"), ("interface", "Missing missing();"),
-    ("parcelable", "float real;"), ("parcelable", "IBinder binder;"), ("parcelable", "ParcelFileDescriptor file;"), ("parcelable", "Map map;"),
-    ("parcelable", "int[2] fixed;"), ("parcelable", "Map<String, String> map;"), ("parcelable", "int over = 2147483647 + 1;"),
-    ("parcelable", "long over = 9223372036854775807 + 1;"), ("parcelable", "int zero = 1 / 0;"), ("parcelable", "int zero = 1 % 0;"),
-    ("parcelable", "int shift = 1 << 32;"), ("parcelable", "int shift = 1 << -1;"), ("parcelable", "int shift = 8 >> -1;"), ("parcelable", "boolean truth = 1;"),
-    ("parcelable", "int kind = true;"), ("parcelable", "String text = 1;"), ("parcelable", 'int text = "x";'), ("parcelable", "char letter = 65;"),
-    ("parcelable", "int letter = 'x';"), ("parcelable", "const int SELF = SELF;"), ("parcelable", "const int ONE = TWO; const int TWO = ONE;"),
-    ("parcelable", "int name = MISSING;"), ("parcelable", "int name = Missing.NAME;"), ("parcelable", "byte fits = 128;"), ("parcelable", "byte fits = -129;"),
-    ("parcelable", "int fits = 2147483648;"), ("parcelable", "byte fits = 0xff;"), ("parcelable", "@nullable int primitive;"), ("parcelable", "@utf8InCpp int number;"),
-    ("parcelable", "@Backing(type=\"int\") int backed;"), ("parcelable", "@FixedSize int fixed;"), ("parcelable", "@Missing int annotated;"),
-    ("parcelable", "@nullable @nullable String twice;"), ("interface", "@nullable void nothing();"), ("interface", "@nullable int primitive();"),
-    ("parcelable", "@nullable(heap=true) String heap;"), ("parcelable", "List bare;"), ("parcelable", "List<int> ints;"), ("parcelable", "List<String>[] lists;"),
-    ("parcelable", "List<List<String>> lists;"), ("parcelable", "String<String> strings;"), ("interface", "void way(int[] missing);"),
-    ("interface", "void way(out int primitive);"), ("interface", "void way(inout String text);"), ("interface", "void way(List<String> missing);"),
-    ("interface", "oneway int answers();"), ("interface", "oneway void answers(out int[] a);"), ("interface", "void id() = 1; void none();"),
-    ("interface", "void id() = 16777115;"), ("interface", "void id() = -1;"), ("interface", "void id() = 1L;"), ("parcelable", "const int[] ARRAY = {1};"),
-    ("parcelable", "const float REAL = 1.0f;"), ("parcelable", "int list = {1};"), ("parcelable", "int[] single = 1;"), ("union", "int late = 3;"),
-    ("parcelable", "String text = {};"), ("parcelable", "int number = 08;"), ("parcelable", "int number = 010;"), ("parcelable", "int number = 1_0;"),
-    ("parcelable", "int number = 255u8;"), ("parcelable", "String text = \"\\n\";"), ("parcelable", "int a, b;"), ("parcelable", "int;"), ("parcelable", "private int a;"),
-    ("interface", "void f() { }"), ("interface", "void f(int a,);"), ("interface", "int f;"), ("parcelable", "void f();"), ("enum", "a b,"), ("enum", "= 3,"),
-    ("parcelable", "int @nullable behind;"), ("interface", "oneway @UnsupportedAppUsage void behind();"), ("parcelable", "const @utf8InCpp String BEHIND = \"x\";"),
-    ("interface", "void f(@nullable in String s);"), ("parcelable", "void nothing;"), ("parcelable", "boolean many = 1 < 2;"), ("parcelable", "int many = 1 < 2;"),
-    ("parcelable", "int many = 1 | 2 == 2;"), ("parcelable", "boolean many = !true;"), ("parcelable", "boolean many = 1 == 1 && 2 == 2;"),
-    ("parcelable", "@JavaDefault int dropped;"), ("parcelable", "int name = 1 ? 2 : 3;"), ("parcelable", "/* open"), ("parcelable", "int é;"), ("parcelable", "String s = \"é\";"),
-    ("parcelable", "int # ;"), ("parcelable", "char c = 'ab';"), ("parcelable", "char c = '';"), ("parcelable", "int a = ;"), ("parcelable", "int a = (1;"),
-    ("parcelable", "@nullable(heap=1) String heap;"), ("parcelable", "@nullable(other=true) String other;"), ("parcelable", "@nullable(true) String other;"),
-]
+def lines() -> List[Tuple[List[str], str]]:
+    """The lines of `classes/misses.txt`, each with the kinds of declaration that take it."""
+    text = (HERE / "classes/misses.txt").read_text(encoding="utf-8")
+    parts = [line.split(": ", 1) for line in text.split("\n") if line and not line.startswith("#")]
+    return [(kinds.split(" "), line) for kinds, line in parts]
+
+
+LINES = lines()
 
 
 def wrong_line(edit: Editor) -> str:
     """Puts one of the lines above into the tree."""
     kinds, line = edit.dice.choice(LINES)
-    return line if add(edit, line, *kinds.split(" ")) else ""
+    return line if add(edit, line, *kinds) else ""
 
 
 def wrong_shape(edit: Editor) -> str:
