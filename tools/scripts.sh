@@ -130,7 +130,7 @@ find_program() {
     for at in "$top/crates/aidl/out" "$cache"; do
         program=$at/$kept
         if [ -x "$program" ] && [ -f "$program.of" ]; then
-            { read -r sources; read -r made; read -r by; } <"$program.of"
+            { IFS= read -r sources; IFS= read -r made; IFS= read -r by; } <"$program.of"
             [ "$sources" = "$now" ] && [ "${kit:-$by}" = "$by" ] && [ "$made" = "$(sum_of "$program")" ] && return
         fi
     done

@@ -15,20 +15,18 @@ import subprocess
 import sys
 import tempfile
 
+import page_blocks
+
 TOP = pathlib.Path(__file__).resolve().parents[2]
 MARK = "\x01"
+# what the scripts say on standard error where nothing is wrong
+NOTES = re.compile(r"(?:aidl: there is no folder .*\n|(?:check-api|report|stage|try-calls): .*\n)*")
 WAITS = 600  # seconds for the commands of a page
-
-
-def blocks(text, kind):
-    """The blocks of this kind, each with the number of its first line."""
-    for block in re.finditer(rf"^```{kind}\n(.*?)^```", text, re.M | re.S):
-        yield text[: block.start(1)].count("\n") + 1, block[1]
 
 
 def commands(text):
     """The commands of a page, each with its line and with what it is to print."""
-    for first, block in blocks(text, "console"):
+    for first, block in page_blocks.blocks(text, "console"):
         for command in re.finditer(r"^\$ (.*)\n((?:(?!\$ ).*\n)*)", block, re.M):
             yield first + block[: command.start()].count("\n"), command[1], command[2]
 
@@ -54,22 +52,31 @@ def furnish(room, program):
     return environment
 
 
-def printed(found, program):
-    """What these commands print, one after the other in one folder."""
-    with tempfile.TemporaryDirectory() as name:
+def ran(found, program):
+    """What comes of these commands, one after the other in one folder: what each prints, its exit, and what it says on standard error."""
+    with tempfile.TemporaryDirectory() as name, tempfile.TemporaryDirectory() as aside:
         environment = furnish(pathlib.Path(name), program)
-        script = "\n".join(f"{{ {command}\n}}; printf '{MARK}'" for _, command, _ in found)
-        run = subprocess.run(["sh", "-c", script], cwd=name, env=environment, stdout=-1, stderr=-3, timeout=WAITS, check=False)
-    return run.stdout.decode(errors="replace").split(MARK)[:-1]
+        lines = (f"{{ {command}\n}} 2>{aside}/{number}; printf '{MARK}%d{MARK}' $?" for number, (_, command, _) in enumerate(found))
+        run = subprocess.run(["sh", "-c", "\n".join(lines)], cwd=name, env=environment, stdin=-3, stdout=-1, stderr=-3, timeout=WAITS, check=False)
+        parts = run.stdout.decode(errors="replace").split(MARK)
+        came = []
+        for number in range(len(found)):
+            text, status = (parts[2 * number : 2 * number + 2] + ["", ""])[:2]
+            said = pathlib.Path(aside, str(number))
+            came.append((text, status, said.read_text(errors="replace") if said.exists() else "it wasn't run"))
+    return came
 
 
 def wrong_commands(text, program):
-    """A line for each command that prints something else."""
+    """A line for each command that prints something else, or that fails and shows nothing of it."""
     found = list(commands(text))
-    texts = printed(found, program) if found else []
-    for (line, command, wanted), given in zip(found, texts + [""] * len(found)):
+    for (line, command, wanted), (given, status, said) in zip(found, ran(found, program) if found else []):
         if wanted != given:
             yield line, f"`{command}` prints {given!r}"
+        elif status not in ("0", "1") or status == "1" and not given:
+            yield line, f"`{command}` ends with {status}, which isn't shown, and says {said!r}"
+        elif ">&2" not in command and not NOTES.fullmatch(said):
+            yield line, f"`{command}` says {said!r} on standard error"
 
 
 def run_case(case, program):
@@ -93,7 +100,7 @@ def row_of(case):
 def wrong_cases(text, program):
     """A line for each case that is no row where it has to be one, or of which something else is printed."""
     for kind, whole in (("rows", row_of), ("trees", lambda case: case)):
-        for first, block in blocks(text, kind):
+        for first, block in page_blocks.blocks(text, kind):
             for number, case in enumerate(block.splitlines()):
                 files, _, wanted = (whole(case) or "").partition(" => ")
                 if not files:
@@ -110,4 +117,4 @@ def wrong(text, program):
 
 def shown(text):
     """How many commands and cases a page shows."""
-    return len(list(commands(text))) + sum(block.count("\n") for kind in ("rows", "trees") for _, block in blocks(text, kind))
+    return len(list(commands(text))) + sum(block.count("\n") for kind in ("rows", "trees") for _, block in page_blocks.blocks(text, kind))
