@@ -3,6 +3,7 @@
 Pairs: those of the program's rows, those of the tables, and random ones. Each pair in which the two differ has to belong to classes of
 `classes/judge.json`; where Android's tool alone says yes, `witness` or the bytes of the class show what is misread."""
 import functools
+import json
 import pathlib
 import re
 from typing import Iterator, List, Set, Tuple
@@ -17,7 +18,7 @@ from .tools import program, scratch, write_tree
 PAIRS = 5200
 # the figures in the order in which they are printed
 FIGURES = ("random pairs", "pairs of rows", "pairs: both say no", "pairs: both say yes", "pairs: Android 14 alone says yes",
-           "of these, witness prints a call that goes wrong", "pairs: the program alone says yes")
+           "of these, witness or the bytes of a default show it", "pairs: the program alone says yes")
 
 
 def word(answer: Answer) -> str:
@@ -80,7 +81,7 @@ def refused_there(options: Options, verdict: Verdict) -> Tuple[Set[str], List[st
     """The classes of the messages of Android's compiler alone, and those that no class explains."""
     known, found, rest = classes(options, "judge"), set(), []
     for message in verdict.theirs.lines:
-        names = [name for name, row in known.items() if "message" in row and re.search(row["message"], message)]
+        names = [name for name, row in known.items() if "message" in row and re.search(row["message"], changed(message))]
         if names:
             found.add(names[0])
         else:
@@ -88,17 +89,46 @@ def refused_there(options: Options, verdict: Verdict) -> Tuple[Set[str], List[st
     return found, rest
 
 
-def shown(options: Options, pair: Pair) -> bool:
-    """Whether `witness` prints a call that goes wrong. An interface that carries each type of both versions is put into both trees."""
+def changed(message: str) -> str:
+    """A message on annotations without those that both versions have."""
+    parts = re.fullmatch(r"(.*Changed annotations: )(.*) to (.*)", message)
+    if not parts:
+        return message
+    before, after = (re.findall(r"@\w+(?:\([^)]*\))?", part) for part in parts.groups()[1:])
+    lost, new = ([one for one in some if one not in others] for some, others in ((before, after), (after, before)))
+    return parts[1] + (" ".join(lost) or "(empty)") + " to " + (" ".join(new) or "(empty)")
+
+
+def shown(options: Options, verdict: Verdict) -> bool:
+    """Whether `witness` prints a call that goes wrong, or the bytes of a default are read otherwise. For `witness` an interface that carries each type
+    of both versions is put into both trees."""
     with scratch() as room:
-        laid(room, pair)
+        laid(room, verdict.pair)
         for side in ("old", "new"):
             program(options, "dump", side, f"{side}.dump", cwd=room)
         names = sorted(set(fields(room / "old.dump")) & set(fields(room / "new.dump")))
+        places = [line.split(" ")[1] for line in verdict.ours.lines]
+        if any(read_otherwise(options, room, place) for place in places if place.rpartition(".")[0] in names):
+            return True
         methods = " ".join(f"void carry{number}(in {name} value);" for number, name in enumerate(names))
         for side in ("old", "new"):
             write_tree(room / side, {"carrying/ICarry.aidl": f"package carrying; interface ICarry {{ {methods} }}"})
         return any(line.startswith("call ") for line in program(options, "witness", "old", "new", cwd=room).lines)
+
+
+def read_otherwise(options: Options, room: pathlib.Path, place: str) -> bool:
+    """Whether the two versions read other values of the same bytes: those of a parcelable's default, or of a union's member, as one of them writes it."""
+    owner, _, member = place.rpartition(".")
+    for value in [{}, *({member: sample} for sample in (0, "", "x", False, [], None, {}))]:
+        (room / "value").write_text(json.dumps([value]))
+        for writer in ("old", "new"):
+            written = program(options, "encode", "--tree", writer, owner, "value", cwd=room)
+            if written.exit == 0:
+                (room / "bytes").write_text(written.out)
+                read = [program(options, "decode", "--tree", reader, owner, "bytes", cwd=room).lines for reader in ("old", "new")]
+                if read[0] != read[1]:
+                    return True
+    return False
 
 
 def weigh(options: Options, verdict: Verdict, counts: Counts, of: str) -> None:
@@ -111,7 +141,7 @@ def weigh(options: Options, verdict: Verdict, counts: Counts, of: str) -> None:
     elif (ours, theirs) == ("no", "yes"):
         found, rest = refused_here(options, verdict)
         counts.add("pairs: Android 14 alone says yes")
-        counts.add("of these, witness prints a call that goes wrong", int(shown(options, verdict.pair)))
+        counts.add("of these, witness or the bytes of a default show it", int(shown(options, verdict)))
         by_rule(verdict, counts, "by the program alone")
         tell(counts, found, rest, where, verdict)
     elif (ours, theirs) == ("yes", "no"):
