@@ -51,7 +51,6 @@ class Tree:
         if not self.sources:
             raise Fault(f"there is no .aidl file in {folder}")
         self.bring()
-        self.surroundings = {name: source for name, source in self.surroundings.items() if name not in self.declared}
 
     def add(self, shown: str, path: str) -> None:
         """Reads a file."""
@@ -92,6 +91,7 @@ class Tree:
                     self.imported[found[1]] = found[0]
                     waiting.append(self.sources[found[1]])
             self.check_imports(source)
+        self.surroundings = {name: source for name, source in self.surroundings.items() if name not in self.declared}
 
     def wanted(self, source: Source) -> Iterator[str]:
         """The full names that a file may mean: of its imports, of its types, and of what stands in front of a dot in its values."""
