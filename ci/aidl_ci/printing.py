@@ -12,6 +12,8 @@ HIDDEN = {"Cc", "Cf", "Zl", "Zp", "Cs"}
 
 def plain(text: str) -> str:
     """The text in one line, with a blank for each character that controls a terminal, ends a line or turns the direction of text round."""
+    if text.isprintable():
+        return text
     return "".join(" " if unicodedata.category(char) in HIDDEN else char for char in text)
 
 

@@ -13,11 +13,12 @@ from .github import github
 from .markdown import markdown
 from .model import Report, of_api, of_pair
 from .page import page
+from .picture import picture
 from .sarif import sarif
 from .text import text
 from .trees import Room
 
-FORMS: dict[str, Callable[[Report], str]] = {"text": text, "markdown": markdown, "html": page, "sarif": sarif, "github": github}
+FORMS: dict[str, Callable[[Report], str]] = {"text": text, "markdown": markdown, "html": page, "sarif": sarif, "github": github, "svg": picture}
 
 
 def made(program: Program, old: str, new: Optional[str], *, api: bool = False, titles: tuple[str, str] = ("", ""), notes: Sequence[str] = ()) -> Report:
@@ -53,12 +54,13 @@ def write(
     html: Optional[str] = None,
     sarif: Optional[str] = None,
     github: Optional[str] = None,
+    svg: Optional[str] = None,
     titles: tuple[str, str] = ("", ""),
     notes: Sequence[str] = (),
 ) -> Report:
     """Makes a report and writes the forms that are named, each to a path or to `-`. The report's `status` is 0 where nothing breaks, else 1."""
     report = made(program, old, new, api=api, titles=titles, notes=notes)
-    written(report, {"text": text, "markdown": markdown, "html": html, "sarif": sarif, "github": github})
+    written(report, {"text": text, "markdown": markdown, "html": html, "sarif": sarif, "github": github, "svg": svg})
     return report
 
 
@@ -69,6 +71,7 @@ def main(words: list[str]) -> int:
     reader.add_argument("--markdown", action="store_const", const="-", help="Markdown for a comment of a pull request")
     reader.add_argument("--html", metavar="FILE", help="one page that needs nothing else; wants jinja2")
     reader.add_argument("--sarif", metavar="FILE", help="SARIF 2.1.0")
+    reader.add_argument("--svg", metavar="FILE", help="a picture of the first call that goes wrong")
     reader.add_argument("--github", action="store_const", const="-", help="annotations of a GitHub workflow")
     reader.add_argument("trees", nargs="+", metavar="TREE", help="OLD NEW; with --api the one tree that follows the versions")
     reader.epilog = "Ends with 0 where nothing breaks, 1 where something does, a version isn't intact or a tree has faults, 2 where that isn't known."

@@ -5,6 +5,7 @@ from __future__ import annotations
 import json
 import re
 from dataclasses import dataclass
+from itertools import islice
 from typing import Any, Iterable, Iterator, Optional
 
 from ..dump import Declaration, Member
@@ -26,7 +27,6 @@ class Wanted:
     names: frozenset[str]
     method: Optional[str] = None
     choices: tuple[tuple[str, Any], ...] = ()
-    replies: bool = True
 
 
 @dataclass
@@ -56,7 +56,7 @@ class Ends:
 
 def fillings(tree: Tree, wanted: Wanted) -> Iterator[Maker]:
     """The makers that are tried in turn, of the plainest values first."""
-    towards = reaching(tree, set(wanted.names))
+    towards = reaching(tree, wanted.names)
     for name, taken in wanted.choices:
         yield Maker(tree, towards, {name: taken})
     for nulls, big in ((False, False), (True, False), (False, True)):
@@ -65,7 +65,7 @@ def fillings(tree: Tree, wanted: Wanted) -> Iterator[Maker]:
 
 def carries(tree: Tree, method: Member, wanted: Wanted, reply: bool) -> bool:
     """The method's request, or its reply, holds one of the wanted declarations."""
-    towards = reaching(tree, set(wanted.names))
+    towards = reaching(tree, wanted.names)
     given = [one.type.base for one in method.arguments if one.direction != ("in" if reply else "out")]
     result = [method.type.base] if reply and method.type else []
     return bool(towards.intersection(given + result))
@@ -103,8 +103,7 @@ def methods_for(ends: Ends, wanted: Wanted, forward: bool) -> Iterable[tuple[str
         found = tree.member(wanted.method)
         return [(interface, found)] if found and found.kind == "method" and name else []
     alike = ((one.name, method) for one in tree.declarations.values() for method in one.of_kind("method") if is_alike(one, method, other))
-    fitting = [pair for pair in alike if carries(tree, pair[1], wanted, False) or (wanted.replies and carries(tree, pair[1], wanted, True))]
-    return fitting[:METHODS]
+    return islice((pair for pair in alike if carries(tree, pair[1], wanted, False) or carries(tree, pair[1], wanted, True)), METHODS)
 
 
 def is_alike(one: Declaration, method: Member, other: Tree) -> bool:

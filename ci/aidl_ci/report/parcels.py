@@ -17,7 +17,7 @@ STATUS = {-22: "BAD_VALUE", -61: "NOT_ENOUGH_DATA", -74: "UNKNOWN_TRANSACTION", 
 TOKEN = ("token: policy", "token: work source", "token: header", "token: interface")
 TOKEN_ITEMS = 5  # the last of the four parts has two items
 BEYOND = ("tail", "left")
-SHOWN_BYTES = 24
+SHOWN_BYTES = 16
 
 
 @dataclass(frozen=True)

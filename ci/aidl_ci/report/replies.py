@@ -14,7 +14,7 @@ from .trees import Room, Tree
 from .values import Comparison, Difference
 
 EMPTY = ("Empty.aidl", "parcelable Empty { }\n")
-VERSIONS = {">": ("old version", "new version"), "<": ("new version", "old version")}
+VERSIONS = {">": ("the old version", "the new version"), "<": ("the new version", "the old version")}
 
 
 def decoded(room: Room, tree: Tree, parts: list[Part], data: bytes) -> tuple[list[Any], str]:
@@ -137,6 +137,6 @@ def ended_value(ends: Ends, name: str, wanted: Wanted) -> Optional[Shown]:
     ran = ends.room.program.done("encode", "--tree", tree, "Empty", ends.room.file("[{}]"))
     made = value_of(ends, True, name, bytes.fromhex(ran.text.strip()), wanted)
     if made:
-        made.writer, made.reader = "old version (without the field)", "new version"
+        made.name = f"{name} that was sent without its fields"
         made.differences = [one.replace("was sent", "is taken by the old version").replace("is seen", "by the new one") for one in made.differences]
     return made

@@ -40,7 +40,7 @@ class Shown:
     def head(self) -> str:
         """What is shown, in words."""
         if self.kind == "value":
-            return f"A value of {self.name}, no call: the {self.writer} wrote it, the {self.reader} reads it"
+            return f"A value of {self.name}, no call"
         if self.kind == "call":
             return f"{self.writer[0].upper()}{self.writer[1:]} calls {self.name}, code {self.code}"
         return f"{self.writer[0].upper()}{self.writer[1:]} answers {self.name}"

@@ -2,6 +2,7 @@
 
 from __future__ import annotations
 
+import textwrap
 from typing import Iterator, Optional
 
 from ..places import Place
@@ -14,8 +15,8 @@ from .trees import Tree
 
 CUT = 100  # characters of a cell
 UNPROVED = (
-    "Lines, calls and readings are printed by aidl, whose verdict is proved. Causes, places, what is new and the calls that were made for a break are this"
-    " script's own, and aren't. That nothing is shown doesn't mean that calls are safe."
+    "Lines and readings are printed by aidl, whose verdict is proved. Causes, places and the calls that were made for a break are this script's own, and"
+    " aren't proved. That no call is shown doesn't mean that calls are safe."
 )
 
 
@@ -35,7 +36,7 @@ def whole(report: Report) -> Iterator[str]:
     for step in report.steps:
         yield from of_step(step)
     if report.steps:
-        yield from ("", UNPROVED)
+        yield from ("", *textwrap.wrap(UNPROVED, CUT))
 
 
 def faults(tree: Tree) -> Iterator[str]:

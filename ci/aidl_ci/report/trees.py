@@ -43,12 +43,23 @@ class Tree:
         checked = room.program.verdict("check", folder)
         self.faults = verdicts.faults(checked.lines) if checked.status else []
         self.declarations: dict[str, Declaration] = {}
+        self.reaching: dict[frozenset[str], set[str]] = {}
+        self.held: dict[str, list[str]] = {}
         if self.faults:
             return
         if verdicts.count_of_types(checked.lines) == 0:
             raise Fault(f"{folder} has no types; is that its path?")
         self.declarations = dump.of_tree(room.program, folder, room.empty())
         self.places = Places(folder)
+
+    def holders(self) -> dict[str, list[str]]:
+        """By each type that a field has the declarations that have such fields."""
+        if not self.held:
+            for one in self.declarations.values():
+                for each in one.of_kind("field"):
+                    if each.type:
+                        self.held.setdefault(each.type.base, []).append(one.name)
+        return self.held
 
     def member(self, place: str) -> Optional[Member]:
         """The member at a place `n.member`, if the tree has it."""

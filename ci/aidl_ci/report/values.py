@@ -5,7 +5,7 @@ from __future__ import annotations
 import json
 import re
 from dataclasses import dataclass, field
-from typing import Any, Optional
+from typing import Any, Iterable, Optional
 
 from ..dump import Declaration, Type
 from .trees import Tree
@@ -66,20 +66,17 @@ def big_number(one: Declaration) -> int:
     return {"byte": 100, "int": 200, "long": (1 << 32) + 1}[found[1] if found else "byte"]
 
 
-def reaching(tree: Tree, names: set[str]) -> set[str]:
+def reaching(tree: Tree, names: Iterable[str]) -> set[str]:
     """The declarations that hold one of these through their fields, and these."""
-    holders: dict[str, list[str]] = {}
-    for one in tree.declarations.values():
-        for each in one.of_kind("field"):
-            if each.type:
-                holders.setdefault(each.type.base, []).append(one.name)
-    found, left = set(names), list(names)
-    while left:
-        for name in holders.get(left.pop(), []):
-            if name not in found:
-                found.add(name)
-                left.append(name)
-    return found
+    asked = frozenset(names)
+    if asked not in tree.reaching:
+        found, left = set(asked), list(asked)
+        while left:
+            more = [name for name in tree.holders().get(left.pop(), []) if name not in found]
+            found.update(more)
+            left += more
+        tree.reaching[asked] = found
+    return tree.reaching[asked]
 
 
 @dataclass(frozen=True)
