@@ -287,10 +287,11 @@ def test_a_copy_of_the_folder(scratch):
     assert not list((scratch.room / "ci").rglob("__pycache__"))
 
 
-def test_a_script_without_its_package(scratch):
+@pytest.mark.parametrize("name", [path.name for path in sorted(JOB.parent.iterdir()) if path.is_file() and not path.suffix])
+def test_a_script_without_its_package(scratch, name):
     (scratch.room / "alone").mkdir()
-    shutil.copy(JOB, scratch.room / "alone")
-    came = scratch.job("hal", "api", job=scratch.room / "alone/check-api")
+    shutil.copy(JOB.parent / name, scratch.room / "alone")
+    came = scratch.job("hal", "api", job=scratch.room / "alone" / name)
     assert came.status == 2 and came.says("the folder aidl_ci beside it"), came
 
 

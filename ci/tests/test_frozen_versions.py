@@ -167,6 +167,18 @@ def test_a_folder_of_versions_that_is_renamed(scratch, committed):
     assert came.status == 1 and came.says("D\tapi/1/.hash\n", "D\tapi/2/.hash\n", "frozen versions that base has below api are gone"), came
 
 
+def test_a_folder_that_is_renamed_and_marked_as_left_out(scratch):
+    """HEAD hasn't the old name any more, whatever the index says of it."""
+    rename(scratch)
+    scratch.commit()
+    for number in (1, 2):
+        name = scratch.git("rev-parse", f"base:api/{number}/.hash").strip()
+        scratch.git("update-index", "--add", "--cacheinfo", f"100644,{name},api/{number}/.hash")
+        scratch.git("update-index", "--skip-worktree", f"api/{number}/.hash")
+    came = scratch.job("hal", "lamps_api", "base")
+    assert came.status == 1 and came.says("D\tapi/1/.hash\n"), came
+
+
 def test_a_folder_of_versions_that_became_a_link(scratch):
     (scratch.room / "api").rename(scratch.room / "lamps_api")
     (scratch.room / "api").symlink_to("lamps_api")
