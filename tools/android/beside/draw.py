@@ -92,7 +92,8 @@ class Drawer:
         value = self.dice.choice([0, 0, 0, 1, -3])
         for i in range(self.dice.randint(1, 4)):
             is_written = self.may(0.6) or (i == 0 and value != 0)
-            value += 0 if i == 0 else self.dice.randint(1, 3) if is_written else 1
+            if i:
+                value += 1 if not is_written else 0 if self.has("dressed", 0.3) else self.dice.randint(1, 3)
             made.members.append(Enumerator(self.name("E"), self.number_text(value, "byte") if is_written else None))
 
     def interface(self, made: Declaration) -> None:
@@ -135,6 +136,7 @@ class Drawer:
         shape = self.dice.choice(["one", "one", "one", "array", "list" if is_object else "array"])
         made = Type(base, shape, utf8=base == "String" and self.may(0.2))
         made.nullable = (is_object or shape != "one") and self.may(0.25)
+        made.is_not_heap = made.nullable and self.has("dressed", 0.2)
         return made
 
     def field(self, is_fixed: bool) -> Field:

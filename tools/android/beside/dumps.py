@@ -8,7 +8,7 @@ import hashlib
 import pathlib
 import random
 import re
-from typing import Dict, Iterator, List, Sequence
+from typing import Dict, Iterator, List, Sequence, Set
 
 from .base import Counts, Options, Trial
 from .classes import classes, compare_page, page_trial
@@ -47,6 +47,7 @@ class Batch:
         self.trouble = dumped_by_aosp(options, room / "t", room / "theirs") + \
             [line for line in program(options, "dump", "t", "ours", cwd=room).lines if not line.startswith("wrote ")]
         self.ours, self.theirs = (texts(room / "ours"), texts(room / "theirs")) if not self.trouble else ({}, {})
+        self.other_meaning: Set[str] = set()
 
     def owner(self, path: str) -> str:
         """The tree of a file: its package, where there are many trees."""
@@ -60,7 +61,10 @@ def compare_texts(options: Options, batch: Batch, counts: Counts, of: str) -> No
         other = options.turn("dump", rewritten.get(path, "no file"))
         counts.add("files of dumps compared")
         counts.add("files that are the other's by the rules", int(other == text))
-        if other != text:
+        if other != text and has_other_names(text, other) and options.has_row("full-name-of-type"):
+            batch.other_meaning.add(path)
+            counts.detail("files of the class full-name-of-type")
+        elif other != text:
             counts.differ("dump of", of, path, repr(text), "rewritten:", repr(other))
     if set(batch.theirs) != set(batch.ours):
         counts.differ("files of", of, sorted(set(batch.theirs) ^ set(batch.ours)))
@@ -70,9 +74,16 @@ def compare_texts(options: Options, batch: Batch, counts: Counts, of: str) -> No
         counts.detail(f"trees that need the rule {rule}", len(needing))
 
 
+def has_other_names(text: str, other: str) -> bool:
+    """Whether the lines differ in names alone, each of which has more parts in front in the other text: two meanings of one name."""
+    lines, others = text.split("\n"), other.split("\n")
+    return len(lines) == len(others) and all(len(one.split()) == len(two.split()) and all(
+        word == longer or longer.endswith("." + word) for word, longer in zip(one.split(), two.split())) for one, two in zip(lines, others))
+
+
 def compare_read_here(options: Options, batch: Batch, counts: Counts, of: str) -> None:
     """The program reads Android's dump, and its own dump of that is its dump of the source; where it doesn't read it, a class says why."""
-    left = dict(batch.theirs)
+    left = {path: text for path, text in batch.theirs.items() if not batch.other_meaning}
     while left:
         with scratch() as room:
             write_tree(room / "t", left)
@@ -97,6 +108,8 @@ def compare_read_here(options: Options, batch: Batch, counts: Counts, of: str) -
 
 def compare_read_there(options: Options, batch: Batch, counts: Counts, of: str) -> None:
     """Android's compiler reads the program's dump, and its dump of that is the same by the rules; and what `--checkapi` says of both."""
+    if batch.other_meaning:
+        return
     trouble = dumped_by_aosp(options, batch.room / "ours", batch.room / "back")
     if trouble:
         counts.differ("the program's dump isn't read:", of, trouble[:3])
@@ -147,6 +160,13 @@ def compare_examples(options: Options) -> Counts:
     return counts
 
 
+def compare_meaning(options: Options) -> Counts:
+    """The tree in which a full name means another type in either dump; and the one in which the least long is written."""
+    counts = compare(options, [Case("two meanings", classes(Options(options.program, options.home), "language")["full-name-of-type"]["files"])], "two meanings")
+    counts.join(compare(options, [Case("least long", {"R.aidl": "parcelable R { long a = 0x8000000000000000; }"})], "least long"))
+    return counts
+
+
 def soong_hash(folder: pathlib.Path, last: str) -> str:
     """The digits that Android's build writes: over the sorted lines of sha1sum and one line more."""
     lines = [f"{hashlib.sha1((folder / name).read_bytes()).hexdigest()}  ./{name}\n" for name in paths(folder)]
@@ -193,6 +213,7 @@ def run(options: Options) -> Counts:
     with concurrent.futures.ThreadPoolExecutor(JOBS) as pool:
         for part in pool.map(lambda item: compare(options, *item), work):
             counts.join(part)
+    counts.join(compare_meaning(options))
     counts.join(compare_frozen(options))
     counts.join(compare_stubs(options, random.Random(options.seed).sample(cases, min(len(cases), 120))))
     return counts
@@ -207,5 +228,6 @@ def trials(options: Options) -> Iterator[Trial]:
         yield Trial(f"one answer turned, {name}", functools.partial(compare_examples, options.sabotaged(name)))
     for name in ("hash", "verify"):
         yield Trial(f"one answer turned, {name}", functools.partial(compare_frozen, options.sabotaged(name)))
+    yield Trial("without the class full-name-of-type", functools.partial(compare_meaning, options.sabotaged("full-name-of-type")))
     cases = random_cases(options.seed, 1)
     yield Trial("one answer turned, stubs", functools.partial(compare_stubs, options.sabotaged("stubs"), cases))

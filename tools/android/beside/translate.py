@@ -263,4 +263,4 @@ def number_of(text: str) -> int:
 
 def long_text(number: int) -> str:
     """A long as the program writes it: the least one has no decimal."""
-    return "0x8000000000000000L" if number == -(1 << 63) else f"{number}L"
+    return "0x8000000000000000" if number == -(1 << 63) else f"{number}L"

@@ -13,11 +13,12 @@ class Type:
     shape: str = "one"  # "array", "list"
     nullable: bool = False
     heap: bool = False
+    is_not_heap: bool = False
     utf8: bool = False
 
     def annotations(self) -> List[str]:
         """Those that belong to the type."""
-        nullable = ["@nullable(heap=true)"] if self.heap else ["@nullable"] if self.nullable else []
+        nullable = ["@nullable(heap=true)"] if self.heap else ["@nullable(heap=false)"] if self.nullable and self.is_not_heap else ["@nullable"] if self.nullable else []
         return nullable + (["@utf8InCpp"] if self.utf8 else [])
 
     def text(self) -> str:

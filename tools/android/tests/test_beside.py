@@ -13,6 +13,7 @@ sys.path.insert(0, str(HERE))
 from beside.base import Counts, Options, Sabotage  # noqa: E402
 from beside.classes import classes, heading_of, repeated  # noqa: E402
 from beside.draw import draw_tree  # noqa: E402
+from beside.dumps import has_other_names  # noqa: E402
 from beside.edits import EDITS, Editor, edited  # noqa: E402
 from beside.pairs import mentioned, with_imports  # noqa: E402
 from beside.reading import is_of  # noqa: E402
@@ -116,6 +117,11 @@ def test_a_dump_is_rewritten_by_the_rules():
 def test_each_rule_that_a_dump_needs_changes_it():
     needed = [rule for rule in classes(PLAIN, "dumps") if Translator({"a/Z.aidl": DUMP}, lambda name, rule=rule: name != rule).texts() != {"a/Z.aidl": OURS}]
     assert {"notice", "comments", "literals", "first-enumerator", "byte-backing", "constant-order", "heap-false", "enumerator-values"} <= set(needed)
+
+
+def test_names_with_more_parts_are_another_meaning():
+    assert has_other_names("  B b;\n", "  a.R.B b;\n")
+    assert not has_other_names("  B b;\n", "  a.R.C b;\n") and not has_other_names("  B b;\n", "  B b;\n  int a;\n")
 
 
 def test_a_fault_is_of_a_class_by_its_place():
