@@ -17,7 +17,7 @@ from .language import real_cases, row_cases
 from .pairs import JOBS, errors, paths
 from .reading import refused_by_ours
 from .readings import BATCH, Case, Reading, one_by_one
-from .stubs import compare_stubs
+from .stubs import compare_permission, compare_stubs
 from .tools import aosp, program, scratch, source, write_tree
 from .translate import Translator
 
@@ -215,6 +215,7 @@ def run(options: Options) -> Counts:
             counts.join(part)
     counts.join(compare_meaning(options))
     counts.join(compare_frozen(options))
+    counts.join(compare_permission(options))
     counts.join(compare_stubs(options, random.Random(options.seed).sample(cases, min(len(cases), 120))))
     return counts
 
@@ -229,5 +230,6 @@ def trials(options: Options) -> Iterator[Trial]:
     for name in ("hash", "verify"):
         yield Trial(f"one answer turned, {name}", functools.partial(compare_frozen, options.sabotaged(name)))
     yield Trial("without the class full-name-of-type", functools.partial(compare_meaning, options.sabotaged("full-name-of-type")))
+    yield Trial("one answer turned, permission", functools.partial(compare_permission, options.sabotaged("permission")))
     cases = random_cases(options.seed, 1)
     yield Trial("one answer turned, stubs", functools.partial(compare_stubs, options.sabotaged("stubs"), cases))

@@ -57,3 +57,18 @@ def compare_stubs(options: Options, cases: Sequence[Case]) -> Counts:
     for case in cases:
         compare_one(options, case, counts)
     return counts
+
+
+def compare_permission(options: Options) -> Counts:
+    """Java's code of a method with @EnforcePermission has a check, and the code of the program's dump has none: the page tells it."""
+    counts = Counts()
+    with scratch() as room:
+        write_tree(room / "t", {"a/I.aidl": 'package a; interface I { @EnforcePermission("X") void f(); }'})
+        program(options, "dump", "t", "ours", cwd=room)
+        for tree, wanted in (("t", "a check"), ("ours", "no check")):
+            made = generated(options, room / tree, "java", room / f"{tree}.java")
+            has_check = any("PermissionEnforcer" in line for lines in made.values() for line in lines)
+            counts.add("codes of @EnforcePermission that are as the page tells")
+            if options.turn("permission", "a check" if has_check else "no check") != wanted or "messages" in made:
+                counts.differ("the code of", tree, "has not", wanted, made)
+    return counts
