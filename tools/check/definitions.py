@@ -1,7 +1,7 @@
 """Counts the lines of definitions, those of `crates/*/specs/` but lists of modules, and which of them the clauses of `aidl` need: the
 files that crates/aidl_tool/src/top.rt cites in them, those that these cite, and so on, also by way of the types and traits that they
-speak of. A file counts whole, comments and imports included. It fails where a file in a folder `steps` is needed, and where the contract
-of a function that a crate exports cites one.
+speak of. A file counts whole, comments and imports included. It fails where a file in a folder `steps` is needed, where the contract of a
+function that a crate exports cites one, and where it doesn't see each clause of such a contract.
 
 python3 tools/check/definitions.py
 python3 tools/check/definitions.py --write      puts the last line into docs/ARCHITECTURE.md
@@ -14,7 +14,8 @@ import sys
 CRATES = pathlib.Path(__file__).resolve().parents[2] / "crates"
 USE = re.compile(r"^ *(?:ghost |unfoldable |pub )*use (?:Rattle\.)?([\w.:]*\w)(?: as (\w+)|(?:\.|::)\{(.*)\})?;?$", re.M)
 TYPE = re.compile(r"^(?:pub struct|pub enum|pub trait|impl.* Model for) (\w+).*?^\}", re.M | re.S)
-FUNCTION = re.compile(r"^( *)pub fn (\w+)[^;]*?\n((?: *(?:requires|ensures) .*\n|        .*\n)+) *\{", re.M)
+# one with a contract: without, its brace is on the line where the signature ends
+FUNCTION = re.compile(r"^( *)pub fn (\w+)(?!.*\{\n)((?:(?!\1\{|\1\).*\{\n).*\n)*?)\1\{", re.M)
 CLAUSES = re.compile(r"^pub fn aidl\b.*?^\{", re.M | re.S)
 
 
@@ -70,13 +71,32 @@ def steps_cited():
                     yield f"{lib.parts[-3]}::{name}"
 
 
+def clauses_of(text):
+    """How many clauses the public functions of a text have, counted line by line."""
+    count, is_public = 0, False
+    for line in text.splitlines():
+        if re.match(r" *(?:pub(?:\(crate\))? )?(?:ghost )?fn \w", line):
+            is_public = line.lstrip().startswith("pub fn")
+        count += is_public and bool(re.match(r" *(?:requires|ensures)\b", line))
+    return count
+
+
+def unseen():
+    """The files of which FUNCTION finds other clauses than there are, so that a contract would be passed over."""
+    for source in sorted(CRATES.glob("*/src/*.rt")):
+        text = source.read_text()
+        seen = sum(len(re.findall(r"^ *(?:requires|ensures)\b", contract, re.M)) for _, _, contract in FUNCTION.findall(text))
+        if seen != clauses_of(text):
+            yield f"{source.relative_to(CRATES)}: {seen} clauses are seen of {clauses_of(text)}"
+
+
 def lines(files):
     return sum(file.read_text().count("\n") for file in files)
 
 
 def put(page, line):
     """Puts a line into a page, in place of the one that has the same words before its first number."""
-    path = CRATES.parent / "docs" / page
+    path = next(CRATES.parent.glob(f"docs/**/{page}"))
     front = re.escape(re.match(r"\D*", line)[0])
     path.write_text(re.sub(f"(?m)^{front}.*", lambda _: line, path.read_text(), count=1))
 
@@ -97,8 +117,9 @@ def main():
     if "--write" in sys.argv:
         put("ARCHITECTURE.md", text[-1])
     cite = list(steps_cited())
-    print(*(f"{name} is exported and cites a model of steps" for name in cite), sep="\n", end="\n" * bool(cite), file=sys.stderr)
-    sys.exit(bool(cite) or any("steps" in file.parts for file in ours))
+    found = [*(f"{name} is exported and cites a model of steps" for name in cite), *unseen()]
+    print(*found, sep="\n", end="\n" * bool(found), file=sys.stderr)
+    sys.exit(bool(found) or any("steps" in file.parts for file in ours))
 
 
 if __name__ == "__main__":

@@ -1,130 +1,82 @@
 """Prints, with page and line, what a page says and isn't so; exit 1 if anything.
 
-- A file, crate, function or clause that a page names in backticks and that isn't there: files by name or path, a file of a crate
-  (`Places.antt` of `parcel_words`), `crate::name`, a clause behind the word clause, each word with an underscore and each type, which
-  have to stand somewhere in the code, in crates.txt or in an example, and the name of a page.
-- A piece of a block fenced as `antt`, between empty lines, that stands nowhere in the code, blanks and comments of the code's own aside.
-- A page's count that isn't what tools/check/definitions.py prints, and what that script and tools/check/layers.py refuse.
-- A command or a case that a page shows and of which the program prints something else (tools/check/page_commands.py). But for the pages of OTHERS
-  they have no other commands.
+- A block that isn't one of the closed list of tags, an indented one, and text before the first command of one (page_blocks.py).
+- A file, crate, function, type, clause, word, option, rule or section that a page names and that isn't there, and a piece of a block fenced as `antt`
+  that stands nowhere in the code (page_names.py).
+- A limit, exit, status, offset or count that the code doesn't have (page_figures.py), and the count of lines to believe, which
+  tools/check/definitions.py prints; what that script and tools/check/layers.py refuse.
+- A command or a case that a page shows and of which the program prints something else, a command that fails and doesn't say so (page_commands.py), and
+  a row of a table of which something else comes (page_tables.py).
 
 python3 tools/check/pages.py [PROGRAM]      PROGRAM is crates/aidl/out/aidl if none is named
 """
 
 import pathlib
-import re
 import subprocess
 import sys
+from concurrent.futures import ThreadPoolExecutor
+from typing import Iterator, List
 
+import page_blocks
 import page_commands
+import page_figures
+import page_names
+import page_tables
 
 TOP = pathlib.Path(__file__).resolve().parents[2]
-PAGES = [TOP / "README.md", TOP / "examples/README.md", *sorted(TOP.glob("docs/*.md")), *sorted(TOP.glob("crates/*/data/README*"))]
-OTHERS = ["PERFORMANCE.md", "PROVING.md"]
-FILE = r"[\w./-]+\.(?:rt|antt|py|md|rows|edit|txt|calls|hex)|(?:crates|docs|examples|proofs|specs|src|tools)/[\w./-]+"
-# named, and neither a file that git keeps nor of a crate here
-ELSEWHERE = {"crates/aidl/out/aidl", "state.hex", "decode_utf16", "json_lines", "full"}
-ELSEWHERE |= {"aidl_interface", "aidl_api", "versions_with_info", "cpp_header", "structured_parcelable", "new_api"}
-ELSEWHERE |= {"IsAlwaysCallable", "SplitsAtFirstByte"}
-CLAUSES = r"(?:ensures|requires|law) (\w+) \{"
+WHERE = ("README.md", "examples/README.md", "docs/**/*.md", "ci/*.md", "vectors/README*", "tools/*/README.md", "crates/*/data/README*")
+PAGES = sorted({path for where in WHERE for path in TOP.glob(where)})
 
 
-def named(line):
-    """What a line names: paths that have to end some file's, pairs of a crate and a name in it, and words."""
-    spans = re.findall(r"`([^`]+)`", line)
-    files = {name.rstrip("/.") for span in spans if "*" not in span for name in re.findall(FILE, span)}
-    of_crates = re.findall(rf"`({FILE})` of `([a-z]\w*)`", line)
-    pairs = {pair for span in spans for pair in re.findall(r"\b([a-z]\w*)::([a-z]\w*)", span)}
-    words = {word for span in spans for word in re.findall(r"(?<![\w./-])[a-z]\w*_\w+(?![\w./-])", span)}
-    types = {word for span in spans for word in re.findall(r"^([A-Z]\w*[a-z]\w*)(?:::\w+)?$", span)}
-    return files, of_crates, pairs, (words | types) - ELSEWHERE
+def name_of(page: pathlib.Path) -> str:
+    return str(page.relative_to(TOP))
 
 
-def clauses(line):
-    """The clauses that a line names, each with the crate of the function behind it, if one is named."""
-    for names, crate in re.findall(r"[Cc]lauses? ((?:`\w+`(?:, | and )?)+)(?: of (?:the public call )?`(\w+)::)?", line):
-        yield from ((name, crate) for name in re.findall(r"\w+", names.replace(" and ", " ")))
-
-
-def prose(page):
-    """What a page says outside fenced blocks, each paragraph, item and row of a table in one line, with the number of its first."""
-    text = re.sub(r"^```.*?^```", lambda block: re.sub(r"[^\n]", "", block[0]), page.read_text(), flags=re.M | re.S)
-    for part in re.finditer(r"^(?=[^\n]).*(?:\n(?! *(?:[-|#>]|\d+\.) | *$).+)*", text, re.M):
-        yield text[: part.start()].count("\n") + 1, re.sub(r"\s+", " ", part[0])
-
-
-def squeezed(text):
-    return re.sub(r"\s+", "", text)
-
-
-class Names:
-    """What there is: the paths of files, the words of the code, and of each crate its code."""
-
-    def __init__(self):
-        inside = (path.relative_to(TOP) for path in TOP.rglob("*"))
-        self.paths = {f"/{path}" for path in inside if not {".git", "out", "__pycache__"} & set(path.parts)}
-        sources = {path: (TOP / path[1:]).read_text() for path in self.paths if re.search(r"\.(rt|antt|py|txt|edit|aidl)$", path)}
-        self.code = "".join(squeezed(re.sub(r"^ *//.*\n", "", text, flags=re.M)) for text in sources.values())
-        self.known = set(re.findall(r"\w+", "\n".join(sources.values())))
-        self.crates = {name: "" for name in re.findall(r"^(\w+):", sources["/crates.txt"], re.M)}
-        for path in sources:
-            if path.endswith(".rt"):
-                self.crates[path.split("/")[2]] += sources[path]
-
-    def is_file(self, name, below="/"):
-        return any(path.startswith(below) and path.endswith(f"/{name}") for path in self.paths)
-
-    def is_clause(self, name, crate):
-        codes = [self.crates[crate]] if crate in self.crates else self.crates.values()
-        return any(name in re.findall(CLAUSES, code) for code in codes)
-
-    def lost(self, line):
-        """What a line names and isn't there."""
-        files, of_crates, pairs, words = named(line)
-        yield from (name for name in files - ELSEWHERE if not self.is_file(name))
-        yield from (f"{name} of {crate}" for name, crate in of_crates if not self.is_file(name, f"/crates/{crate}/"))
-        yield from (f"clause {name}" for name, crate in clauses(line) if name not in ELSEWHERE and not self.is_clause(name, crate))
-        yield from (f"{a}::{b}" for a, b in pairs if a in self.crates and not re.search(rf"\b(fn|mod) {b}\b", self.crates[a]))
-        yield from words - self.known
-
-
-def wrong_names():
-    names = Names()
+def wrong_texts() -> Iterator[str]:
+    """What is otherwise in the texts alone, without a program."""
+    names = page_names.Names()
     for page in PAGES:
-        for first, block in page_commands.blocks(page.read_text(), "antt"):
-            lost = [part for part in block.split("\n\n") if squeezed(part) not in names.code]
-            yield from (f"{page.relative_to(TOP)}:{first}: the code has no {part.strip()}" for part in lost)
-        for number, line in prose(page):
-            yield from (f"{page.relative_to(TOP)}:{number}: there is no {name}" for name in sorted(set(names.lost(line))))
+        text, name = page.read_text(), name_of(page)
+        found = [*page_blocks.wrong(text, page.name, name.split("/")[0]), *page_figures.wrong(name, text)]
+        found += page_names.wrong(name, text, names) if page.suffix == ".md" else []
+        yield from (f"{name}:{line}: {what}" for line, what in found)
 
 
-def run_script(name):
+def run_script(name: str) -> subprocess.CompletedProcess:
     return subprocess.run([sys.executable, TOP / "tools/check" / name], capture_output=True, text=True, check=False)
 
 
-def wrong_counts():
+def wrong_counts() -> Iterator[str]:
     counted = run_script("definitions.py")
     yield from counted.stderr.splitlines()
     yield from run_script("layers.py").stderr.splitlines()
-    if "".join(counted.stdout.splitlines()[-1:]) not in (TOP / "docs/ARCHITECTURE.md").read_text():
-        yield "docs/ARCHITECTURE.md: its count of lines isn't what tools/check/definitions.py prints"
+    maps = [page.read_text() for page in PAGES if page.name == "ARCHITECTURE.md"]
+    if not any("".join(counted.stdout.splitlines()[-1:]) in text for text in maps):
+        yield "ARCHITECTURE.md: its count of lines isn't what tools/check/definitions.py prints"
 
 
-def wrong_commands(program):
-    for page in PAGES:
-        text = page.read_text()
-        yield from (f"{page.relative_to(TOP)}:{line}: {what}" for line, what in page_commands.wrong(text, program))
-        if page.name not in OTHERS:
-            others = page_commands.blocks(text, "sh")
-            yield from (f"{page.relative_to(TOP)}:{line}: a block of commands that isn't compared" for line, _ in others)
+def wrong_runs(program: pathlib.Path) -> Iterator[str]:
+    """What commands and rows of pages come to otherwise. Each page has a folder of its own, so two are run at a time."""
+
+    def of_page(page: pathlib.Path) -> List[str]:
+        text, name = page.read_text(), name_of(page)
+        found = [*page_commands.wrong(text, program), *page_tables.wrong(name, text, program)]
+        return [f"{name}:{line}: {what}" for line, what in found]
+
+    with ThreadPoolExecutor(2) as runs:
+        for found in runs.map(of_page, PAGES):
+            yield from found
+    yield from (f"{name} isn't there, whose tables are run" for name in page_tables.TABLES if TOP / name not in PAGES)
 
 
-def main():
+def main() -> None:
     program = pathlib.Path(sys.argv[1] if sys.argv[1:] else TOP / "crates/aidl/out/aidl").resolve()
-    wrong = [*wrong_names(), *wrong_counts()]
-    wrong += wrong_commands(program) if program.is_file() else [f"{program} isn't built, so no command was tried"]
-    count = sum(page_commands.shown(page.read_text()) for page in PAGES)
-    print("\n".join(wrong) if wrong else f"{len(PAGES)} pages name nothing that isn't there, and {count} commands and cases print what is shown")
+    wrong = [*wrong_texts(), *wrong_counts()]
+    wrong += wrong_runs(program) if program.is_file() else [f"{program} isn't built, so no command was tried"]
+    commands = sum(page_commands.shown(page.read_text()) for page in PAGES)
+    rows = sum(page_tables.shown(name_of(page), page.read_text()) for page in PAGES)
+    well = f"{len(PAGES)} pages name nothing that isn't there, and {commands} commands and cases and {rows} rows of tables come to what is shown"
+    print("\n".join(wrong) if wrong else well)
     sys.exit(bool(wrong))
 
 

@@ -2,7 +2,8 @@
 
 Left out are the rows in which a call outside fails or a parcel is changed on its way, since no folder and no link of the host does that at
 will, those that run no command, and those whose files or words no folder can hold or may be asked for: a path that begins with `/` or goes
-up, one that is a file and a folder, a byte 0. Each row that ends otherwise is printed, with what came; exit 1 where there is one.
+up, one that is a file and a folder, a byte 0. Each row that ends otherwise is printed, with what came; exit 1 where there is one, and where a file of
+rows isn't there that `worked_rows` reads in the gate, or is there and isn't read, or has no row.
 
 python3 tools/check/rows.py [PROGRAM]      PROGRAM is crates/aidl/out/aidl if none is named
 """
@@ -120,6 +121,17 @@ class Run:
         return is_whole and is_inside and b"\0" not in b"".join([*paths, *self.words])
 
 
+def wrong_files():
+    """The files of rows that are missing, not read in the gate, or without a row."""
+    listed = set(re.findall(r'^ +"(\w+\.rows)",$', (TOP / "crates/worked_rows/src/main.rt").read_text(), re.M))
+    there = {file.name: file.read_text() for file in TOP.glob("crates/worked_rows/data/*.rows")}
+    yield from (f"{name} isn't there, and worked_rows reads it" for name in sorted(listed - set(there)))
+    yield from (f"{name} is read by nothing" for name in sorted(set(there) - listed))
+    yield from (f"{name} has no row" for name, text in sorted(there.items()) if not re.search(r"=>|^exit ", text, re.M))
+    if not listed:
+        yield "worked_rows reads no file"
+
+
 def runs():
     """Each run of a command that the rows describe, with its row."""
     for file in sorted(TOP.glob("crates/worked_rows/data/*.rows")):
@@ -161,6 +173,8 @@ def wanted_of(run):
 
 def main():
     program = pathlib.Path(sys.argv[1] if sys.argv[1:] else TOP / "crates/aidl/out/aidl").resolve()
+    lost = list(wrong_files())
+    print(*lost, sep="\n", end="\n" * bool(lost), flush=True)
     tried = failing = unlaid = differ = 0
     for row, run in runs():
         if run.fails:
@@ -174,7 +188,7 @@ def main():
                 differ += 1
                 print(f"{row[:400]}\n  came: exit {came[0]}, {came[1][:300]!r}, files {sorted(came[2])}", flush=True)
     print(f"{tried} rows as real commands, {differ} differ; {failing} in which something outside fails and {unlaid} that no folder holds are left out")
-    sys.exit(differ > 0 or tried == 0)
+    sys.exit(bool(lost) or differ > 0 or tried == 0)
 
 
 if __name__ == "__main__":
