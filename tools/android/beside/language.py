@@ -8,6 +8,7 @@ import re
 import sys
 from typing import Dict, Iterator, List, Tuple
 
+from . import constants
 from .base import TOP, Counts, Options, Trial
 from .classes import Class, classes, compare_page, page_trial
 from .misses import KINDS
@@ -142,6 +143,7 @@ def run(options: Options) -> Counts:
         for reading in in_batches(options, cases) if kind == "good" else one_by_one(options, cases):
             counts.add("random trees")
             weigh(options, reading, counts, kind)
+    counts.join(constants.compare(options, options.seed, options.amount(constants.EXPRESSIONS), weigh))
     for words, cases in (("trees of rows", list(row_cases())), ("real files", list(real_cases(options)))):
         for reading in one_by_one(options, cases):
             counts.add(words)
@@ -159,4 +161,5 @@ def trials(options: Options) -> Iterator[Trial]:
         else:
             yield Trial(f"without the class {name}", functools.partial(compare_examples, options.sabotaged(name)))
     yield page_trial(options, "language")
+    yield from constants.trials(options, weigh)
     yield Trial("one answer turned, check", functools.partial(compare_examples, options.sabotaged("check")))
