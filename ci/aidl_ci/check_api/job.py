@@ -10,7 +10,7 @@ from typing import Optional
 from ..guard import Fault, Stop, arguments
 from ..printing import use_utf8
 from ..program import Program
-from . import beside, keeping, unfrozen
+from . import aosp, beside, keeping, unfrozen
 from .judging import ADVICE, Judge
 from .log import Log
 
@@ -20,7 +20,7 @@ DESCRIPTION = "Says whether TREE may follow the frozen versions below API, and w
 def options_of(words: list[str]) -> argparse.Namespace:
     reader = arguments("check-api", DESCRIPTION)
     reader.usage = "check-api [--frozen] [--against REV] [--report DIR] TREE API [BASE]"
-    reader.epilog = "AIDL names the program, if it isn't beside this script. docs/CI.md says more."
+    reader.epilog = "AIDL names the program, if it isn't beside this script. docs/CI.md says more. For a module of Android's build: check-api --aosp --help."
     reader.add_argument("tree", metavar="TREE", help="the folder of the sources")
     reader.add_argument("api", metavar="API", help="the folder of the frozen versions, API/1 and so on")
     reader.add_argument("base", metavar="BASE", nargs="?", help="the git revision whose frozen versions have to be as they were")
@@ -79,6 +79,8 @@ class Job:
 
 
 def main(words: list[str]) -> int:
+    if "--aosp" in words:
+        return aosp.main(words)
     options = options_of(words)
     use_utf8()
     log = Log()
