@@ -7,7 +7,7 @@ import pathlib
 import tempfile
 from typing import Any
 
-from . import making
+from . import android, making
 from .frame import VECTORS, Fault, arguments, complain, say
 from .program import Program
 
@@ -21,7 +21,11 @@ def main(words: list[str]) -> int:
                        "Exit 0: written, or the same. 1: --check found another line. 2: a fault.")
     reader.add_argument("--check", nargs="?", type=positive, const=0, metavar="COUNT",
                         help="compares with vectors.jsonl and writes nothing; with a number that many vectors alone, evenly spaced")
+    reader.add_argument("--android", action="append", type=android.Host.of, metavar="VERSION:TREE=HOST",
+                        help="fills the column `android` by this host program over a tree, old or new; may be repeated. Without it the column stays as it is")
     given = reader.parse_args(words)
+    if given.android:
+        return fill(given.android)
     program = Program()
     with tempfile.TemporaryDirectory() as room:
         cases = making.all_cases(program, pathlib.Path(room))
@@ -38,7 +42,7 @@ def positive(text: str) -> int:
     return number
 
 
-def kept() -> dict[str, Any]:
+def kept() -> dict[str, str]:
     """The lines of vectors.jsonl by their ids."""
     if not VECTORS.exists():
         return {}
@@ -51,9 +55,26 @@ def android_of(lines: dict[str, str]) -> dict[str, Any]:
     return {name: json.loads(line)["android"] for name, line in lines.items() if '"android":' in line}
 
 
+def fill(hosts: list[android.Host]) -> int:
+    """Writes the column `android` of the file anew for the versions of these hosts."""
+    made = [json.loads(line) for line in kept().values()]
+    column = android.column(hosts, made)
+    asked = {host.version for host in hosts}
+    for one in made:
+        entries = {version: entry for version, entry in one.pop("android", {}).items() if version not in asked}
+        entries.update(column.get(one["id"], {}))
+        if entries:
+            one["android"] = dict(sorted(entries.items()))
+    return store([making.line_of(one) for one in made])
+
+
 def write(program: Program, cases: list[making.Case]) -> int:
     """Writes the file."""
-    lines = [making.line_of(one) for one in making.vectors(program, cases, android_of(kept()))]
+    return store([making.line_of(one) for one in making.vectors(program, cases, android_of(kept()))])
+
+
+def store(lines: list[str]) -> int:
+    """Writes the file of these lines, where they are neither too few nor too long."""
     size = sum(map(len, lines))
     if size > MOST_BYTES or len(lines) < LEAST_VECTORS:
         raise Fault(f"{len(lines)} vectors of {size} bytes: at least {LEAST_VECTORS} are wanted, in at most {MOST_BYTES} bytes")
