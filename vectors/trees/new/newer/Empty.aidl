@@ -1,0 +1,5 @@
+package newer;
+
+parcelable Empty {
+    int added = 9;
+}

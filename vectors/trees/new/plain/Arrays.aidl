@@ -1,0 +1,11 @@
+package plain;
+
+parcelable Arrays {
+    boolean[] flags;
+    byte[] octets;
+    char[] units;
+    int[] numbers;
+    long[] wides;
+    String[] texts;
+    List<String> list;
+}

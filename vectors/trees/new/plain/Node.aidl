@@ -1,0 +1,6 @@
+package plain;
+
+parcelable Node {
+    int key;
+    plain.Node[] below;
+}

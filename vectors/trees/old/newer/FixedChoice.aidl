@@ -1,0 +1,6 @@
+package newer;
+
+@FixedSize union FixedChoice {
+    int number;
+    long wide;
+}

@@ -1,0 +1,6 @@
+package plain;
+
+parcelable Point {
+    int x;
+    int y = 7;
+}
