@@ -11,6 +11,7 @@ import tempfile
 from ..guard import Fault, Stop, arguments
 from ..printing import use_utf8
 from ..program import Program
+from ..standins import FROZEN
 from ..standins.lexer import Text
 from ..standins.tree import Tree
 from . import keeping, soong
@@ -20,7 +21,6 @@ from .log import Log
 DESCRIPTION = """Says whether the sources of a module of Android's build may follow its frozen versions, and whether these are as the git revision BASE has
 them. Types that `aidl` leaves out are replaced by stand-ins of their own, and each verdict has the list of them in front: nothing is proved of what was
 replaced."""
-FROZEN = "aidl_api"
 
 
 def options_of(words: list[str]) -> argparse.Namespace:
@@ -43,8 +43,9 @@ class Module:
         self.options, self.log = options, log
         self.module = options.module.rstrip("/") or "/"
         self.api = os.path.join(self.module, FROZEN, options.name)
-        if not os.path.isdir(self.module):
-            raise Fault(f"there is no folder {self.module}")
+        for folder in [self.module, *options.imports]:
+            if not os.path.isdir(folder):
+                raise Fault(f"there is no folder {folder}")
         self.program = Program()
 
     def run(self) -> None:

@@ -12,7 +12,8 @@ from .copier import Copier, unstructured
 from .table import Replaced, StandIns
 from .tree import Tree
 
-__all__ = ["Replaced", "Staged", "Tree", "stage", "stage_trees"]
+FROZEN = "aidl_api"  # the folder of a module's frozen versions, beside its sources
+__all__ = ["FROZEN", "Replaced", "Staged", "Tree", "stage", "stage_trees"]
 
 
 @dataclass(frozen=True)
@@ -25,9 +26,9 @@ class Staged:
 
 
 def stage(old: str, new: str, imports: Sequence[str], out: str) -> Staged:
-    """Copies two trees to `OUT/old` and `OUT/new`, each beside what it imports."""
+    """Copies two trees to `OUT/old` and `OUT/new`, each beside what it imports. Frozen versions inside a tree are no part of it."""
     folders = [os.path.join(out, "old"), os.path.join(out, "new")]
-    replaced = stage_trees([Tree(old, imports), Tree(new, imports)], folders)
+    replaced = stage_trees([Tree(one, imports, outside=[FROZEN]) for one in (old, new)], folders)
     return Staged(folders[0], folders[1], replaced)
 
 
@@ -36,6 +37,9 @@ def stage_trees(trees: Sequence[Tree], folders: Sequence[str]) -> list[Replaced]
     for folder in folders:
         if os.path.lexists(folder) and not (os.path.isdir(folder) and not os.listdir(folder)):
             raise Fault(f"{folder} isn't empty: a copy is written into a new folder")
+    imported = {path: shown for tree in trees for path, shown in tree.imported.items()}
+    for tree in trees:
+        tree.bring_also(imported)
     made = StandIns(len(trees))
     copies = [copies_of(tree, number, trees, made) for number, tree in enumerate(trees)]
     check_names(trees)

@@ -93,6 +93,14 @@ class Tree:
             self.check_imports(source)
         self.surroundings = {name: source for name, source in self.surroundings.items() if name not in self.declared}
 
+    def bring_also(self, files: dict[str, str]) -> None:
+        """Brings in what another tree imports, by path and place, so that an import which only one tree has is no type that the other lacks."""
+        for path, shown in sorted(files.items()):
+            if path not in self.sources:
+                self.add(shown, path)
+                self.imported[path] = shown
+        self.bring()
+
     def wanted(self, source: Source) -> Iterator[str]:
         """The full names that a file may mean: of its imports, of its types, and of what stands in front of a dot in its values."""
         for one in source.imports:

@@ -1,0 +1,7 @@
+package common;
+
+@VintfStability
+parcelable Handle {
+    ParcelFileDescriptor file;
+    int[] numbers = {};
+}

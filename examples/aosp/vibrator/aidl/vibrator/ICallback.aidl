@@ -1,0 +1,6 @@
+package vibrator;
+
+@VintfStability
+interface ICallback {
+    oneway void onComplete();
+}
