@@ -72,3 +72,17 @@ def test_a_pair_comes_to_what_is_true(pair, program, tmp_path, monkeypatch):
     judged = subprocess.run([program, "judge", "out/old", "out/new"], capture_output=True, text=True)
     assert set(judged.stdout.splitlines()) == pair.wanted
     assert judged.returncode == (0 if pair.wanted == {"yes"} else 1)
+
+
+# What Android 14's compiler says where it doesn't read a tree.
+UNREAD = re.compile(r"Failed to read|Failed to resolve|Failed to parse|syntax error")
+LOOKED_AT = os.environ.get("ANDROID_AIDL")
+
+
+@pytest.mark.skipif(not LOOKED_AT, reason="ANDROID_AIDL names Android's compiler")
+@pytest.mark.parametrize("pair", [pair for pair in read_pairs(PAIRS) if not any(one.startswith("refused ") for one in pair.wanted)], ids=lambda pair: pair.name)
+def test_androids_own_check_differs_as_the_pair_says(pair, tmp_path):
+    pair.write(tmp_path)
+    ran = subprocess.run([LOOKED_AT, "-I", "import", "--checkapi=compatible", "old", "new"], cwd=tmp_path, capture_output=True, text=True)
+    says = "accepts" if ran.returncode == 0 else "unread" if UNREAD.search(ran.stderr) else "refuses"
+    assert says == (pair.android or ("accepts" if pair.wanted == {"yes"} else "refuses")), ran.stderr

@@ -5,7 +5,7 @@ from __future__ import annotations
 from dataclasses import dataclass
 from typing import Optional
 
-from .declarations import Annotation, Declaration, Type
+from .declarations import Annotation, Declaration, Expression, Type
 from .table import NAMED, StandIns
 from .tree import BUILT_IN, READ, Tree
 from .values import Values
@@ -84,7 +84,7 @@ class Kinds:
         lengths = ["" if one is None else str(self.length(scope, one)) for one in type_.lengths if brackets]
         return base + (f"<{arguments}>" if type_.arguments else "") + "".join(f"[{one}]" for one in lengths)
 
-    def length(self, scope: Declaration, expression) -> int:
+    def length(self, scope: Declaration, expression: Expression) -> int:
         found = self.values.whole(scope, expression)
         if found < 0:
             scope.source.text.refuse(expression.span.start, "a length below 0")

@@ -8,7 +8,7 @@ from typing import Iterator, Optional, Sequence
 from ..dump import sources
 from ..guard import Fault
 from .declarations import Declaration, Source, Type
-from .lexer import Text
+from .lexer import Text, Token
 from .parser import parse
 
 PACKAGE = "standin"
@@ -173,15 +173,13 @@ def bases(type_: Type) -> Iterator[str]:
         yield from bases(one)
 
 
-def dotted(tokens: Sequence) -> list[str]:
+def dotted(tokens: Sequence[Token]) -> list[str]:
     """What stands in front of the last dot of each name with dots."""
     found, parts = [], []  # type: list[str], list[str]
-    for token in [*tokens, None]:
-        if token is not None and (token.kind == "word" or token.text == "." and parts):
+    for token in tokens:
+        if token.kind == "word" or token.text == "." and parts:
             parts.append(token.text)
             continue
-        name = "".join(parts)
-        if "." in name:
-            found.append(name.rpartition(".")[0])
+        found.append("".join(parts))
         parts = []
-    return found
+    return [name.rpartition(".")[0] for name in [*found, "".join(parts)] if "." in name]
