@@ -57,8 +57,12 @@ def case(seed: str, package: str) -> Case:
     wanted = dice.choice(["int", "int", "long", "long", "byte", "boolean", "String"])
     made = truth if wanted == "boolean" else number
     text = " + ".join(dice.choice(['"x"', '"a b"', '""']) for _ in range(dice.randint(1, 3))) if wanted == "String" else made(dice, 3)
-    source = FRAME.format(package=package, type=wanted, text=text, small=dice.choice([0, 1, 5, -3]), other=dice.choice([1, 2, 3, 30]))
-    return Case(text, {f"{package}/R.aidl": source})
+    return framed(package, wanted, text, dice.choice([0, 1, 5, -3]), dice.choice([1, 2, 3, 30]))
+
+
+def framed(package: str, wanted: str, text: str, small: int, other: int) -> Case:
+    """A tree with this expression, and constants that it may name."""
+    return Case(text, {f"{package}/R.aidl": FRAME.format(package=package, type=wanted, text=text, small=small, other=other)})
 
 
 def values(options: Options, readings: List[Reading]) -> Iterator[Tuple[Reading, str, str]]:
@@ -92,12 +96,15 @@ def class_of(text: str) -> str:
 def compare(options: Options, seed: int, count: int, weigh: Weigh) -> Counts:
     """The random expressions; `weigh` counts who takes each."""
     counts, readings = Counts(), []
-    for reading in in_batches(options, [case(f"{seed}/constant/{place}", f"p{place}") for place in range(count)]):
+    cases = [case(f"{seed}/constant/{place}", f"p{place}") for place in range(count)]
+    if options.sabotage:  # one of each class at least
+        cases += [framed(f"p{count}", "long", "1 << 31L", 1, 3), framed(f"p{count + 1}", "long", "B << 30", 1, 3)]
+    for reading in in_batches(options, cases):
         readings.append(reading)
         weigh(options, reading, counts, "constant expressions")
     for reading, ours, theirs in values(options, readings):
-        ours = options.turn("value", ours)
         name = class_of(reading.case.name)
+        ours = ours if name else options.turn("value", ours)
         counts.add("constant expressions with one value", int(ours == theirs))
         if ours != theirs and name and options.has_row(name):
             counts.detail(f"constant expressions with two values, of the class {name}")
@@ -109,4 +116,4 @@ def compare(options: Options, seed: int, count: int, weigh: Weigh) -> Counts:
 def trials(options: Options, weigh: Weigh) -> Iterator[Trial]:
     """One value turned, and either class left out."""
     for name in ("value", "width-of-name", "width-of-shift"):
-        yield Trial(f"constant expressions, {name}", functools.partial(compare, options.sabotaged(name), options.seed, 400, weigh))
+        yield Trial(f"constant expressions, {name}", functools.partial(compare, options.sabotaged(name), options.seed, 60, weigh))

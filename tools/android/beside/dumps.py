@@ -23,7 +23,7 @@ from .translate import Translator
 
 TREES = 3000
 # what `--checkapi` says of a pair of dumps of one source: an annotation, or a default by another enumerator
-ALLOWED = r"Changed annotations: |Changed default value: [\w.]*\.\w+ to [\w.]*\.\w+\."
+ALLOWED = r"Changed annotations: |Changed default value: [{}\w., ]*\.\w+[{}\w., ]* to [{}\w., ]*\.\w+[{}\w., ]*\."
 
 
 def texts(folder: pathlib.Path) -> Dict[str, str]:
@@ -64,6 +64,9 @@ def compare_texts(options: Options, batch: Batch, counts: Counts, of: str) -> No
         if other != text and has_other_names(text, other) and options.has_row("full-name-of-type"):
             batch.other_meaning.add(path)
             counts.detail("files of the class full-name-of-type")
+        elif other != text and has_other_shifts(text, other, batch.theirs[path]) and options.has_row("width-of-name"):
+            batch.other_meaning.add(path)
+            counts.detail("files of the class width-of-name")
         elif other != text:
             counts.differ("dump of", of, path, repr(text), "rewritten:", repr(other))
     if set(batch.theirs) != set(batch.ours):
@@ -79,6 +82,14 @@ def has_other_names(text: str, other: str) -> bool:
     lines, others = text.split("\n"), other.split("\n")
     return len(lines) == len(others) and all(len(one.split()) == len(two.split()) and all(
         word == longer or longer.endswith("." + word) for word, longer in zip(one.split(), two.split())) for one, two in zip(lines, others))
+
+
+def has_other_shifts(text: str, other: str, source: str) -> bool:
+    """Whether the lines differ in values alone, each of a shift of a name or by a long: two widths of one expression."""
+    lines, others = text.split("\n"), other.split("\n")
+    differing = [(one, two) for one, two in zip(lines, others) if one != two]
+    shifts = {line.split(" = ")[0].strip() for line in source.split("\n") if re.search(r" = .*(<<|>>).*/\*", line) and re.search(r" = .*([A-Za-z_]\w*|\d[lL])", line)}
+    return len(lines) == len(others) and all(one.split(" = ")[0] == two.split(" = ")[0] and one.split(" = ")[0].strip() in shifts for one, two in differing)
 
 
 def compare_read_here(options: Options, batch: Batch, counts: Counts, of: str) -> None:
@@ -161,8 +172,10 @@ def compare_examples(options: Options) -> Counts:
 
 
 def compare_meaning(options: Options) -> Counts:
-    """The tree in which a full name means another type in either dump; and the one in which the least long is written."""
-    counts = compare(options, [Case("two meanings", classes(Options(options.program, options.home), "language")["full-name-of-type"]["files"])], "two meanings")
+    """The trees in which a full name means another type in either dump, or a shift has another width; and the one in which the least long is written."""
+    counts, known = Counts(), classes(Options(options.program, options.home), "language")
+    for name in ("full-name-of-type", "width-of-name"):
+        counts.join(compare(options, [Case(name, known[name]["files"])], name))
     counts.join(compare(options, [Case("least long", {"R.aidl": "parcelable R { long a = 0x8000000000000000; }"})], "least long"))
     return counts
 
@@ -229,7 +242,8 @@ def trials(options: Options) -> Iterator[Trial]:
         yield Trial(f"one answer turned, {name}", functools.partial(compare_examples, options.sabotaged(name)))
     for name in ("hash", "verify"):
         yield Trial(f"one answer turned, {name}", functools.partial(compare_frozen, options.sabotaged(name)))
-    yield Trial("without the class full-name-of-type", functools.partial(compare_meaning, options.sabotaged("full-name-of-type")))
+    for name in ("full-name-of-type", "width-of-name"):
+        yield Trial(f"without the class {name}", functools.partial(compare_meaning, options.sabotaged(name)))
     yield Trial("one answer turned, permission", functools.partial(compare_permission, options.sabotaged("permission")))
     cases = random_cases(options.seed, 1)
     yield Trial("one answer turned, stubs", functools.partial(compare_stubs, options.sabotaged("stubs"), cases))

@@ -10,9 +10,10 @@ from .tools import aosp, program, scratch, write_tree
 from .translate import Translator
 
 LANGUAGES = ("java", "cpp", "ndk", "rust")
-# what the program's dump leaves out is taken out of Android's too, its constants and nested types are put in order, and nothing else is changed
+# what the program's dump leaves out is taken out of Android's too, its constants and nested types are put in order, and a
+# default is the first enumerator of its value; nothing else is changed
 LEFT_OUT = ("notice", "first-comment", "comments", "dropped-annotations", "constant-order", "nested-order",
-            "behind-oneway")
+            "behind-oneway", "first-enumerator")
 
 
 def generated(options: Options, tree: pathlib.Path, language: str, into: pathlib.Path) -> Dict[str, List[str]]:

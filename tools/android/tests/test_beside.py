@@ -13,7 +13,7 @@ sys.path.insert(0, str(HERE))
 from beside.base import Counts, Options, Sabotage  # noqa: E402
 from beside.classes import classes, heading_of, repeated  # noqa: E402
 from beside.draw import draw_tree  # noqa: E402
-from beside.dumps import has_other_names  # noqa: E402
+from beside.dumps import has_other_names, has_other_shifts  # noqa: E402
 from beside.edits import EDITS, Editor, edited  # noqa: E402
 from beside.pairs import mentioned, with_imports  # noqa: E402
 from beside.reading import is_of  # noqa: E402
@@ -122,6 +122,11 @@ def test_each_rule_that_a_dump_needs_changes_it():
 def test_names_with_more_parts_are_another_meaning():
     assert has_other_names("  B b;\n", "  a.R.B b;\n")
     assert not has_other_names("  B b;\n", "  a.R.C b;\n") and not has_other_names("  B b;\n", "  B b;\n  int a;\n")
+
+
+def test_a_shift_of_a_name_has_another_width():
+    assert has_other_shifts("  long a = 3221225472L;\n", "  long a = -1073741824L;\n", "  long a = (K << 30) /* -1073741824 */;\n")
+    assert not has_other_shifts("  long a = 5L;\n", "  long a = 6L;\n", "  long a = (1 + 4) /* 6 */;\n")
 
 
 def test_a_fault_is_of_a_class_by_its_place():
