@@ -10,7 +10,7 @@ from typing import Iterator, Tuple
 # what page_commands.py runs, what pages.py looks for in the code, and what layers.py draws
 TAGS = {"console", "rows", "trees", "antt", "mermaid"}
 # pages with commands that nobody runs here, since they take hours, and those with files of other programs
-MORE = {"sh": {"PERFORMANCE.md", "PROVING.md", "tools"}, "yaml": {"CI.md"}, "make": {"CI.md"}}
+MORE = {"sh": {"PERFORMANCE.md", "PROVING.md", "tools"}, "yaml": {"CI.md", "REVIEWING.md"}, "make": {"CI.md"}}
 
 Finding = Tuple[int, str]
 
