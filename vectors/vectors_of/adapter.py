@@ -20,7 +20,6 @@ class Adapter:
         self.words, self.seconds = words, seconds
         self.process: Optional[subprocess.Popen[bytes]] = None
         self.rest = b""
-        self.starts = 0
 
     def ask(self, line: str) -> tuple[Optional[str], str]:
         """Its answer, or None and the reason."""
@@ -61,7 +60,6 @@ class Adapter:
             self.process = subprocess.Popen(self.words, stdin=subprocess.PIPE, stdout=subprocess.PIPE, stderr=subprocess.DEVNULL)
         except OSError as why:
             raise Fault(f"{self.words[0]} can't be started: {why}") from why
-        self.starts += 1
         return self.process
 
     def end(self) -> None:

@@ -19,8 +19,8 @@ EDGES = {
     "bytes": (0, -1),
     "tail": (-1,),
 }
-# The words of a token stand in front of each request.
-FEWER = {kind: numbers[-2:] for kind, numbers in EDGES.items()}
+# Of requests, in front of which there is always a token; a number may be the length of an `out` array, so it is small.
+FEWER = {**EDGES, "value": (2, -1), "count": (-1, -2, MOST), "text": (65536, -1)}
 NOUNS = {"value": "the number", "count": "the count", "text": "the text", "bytes": "the raw bytes", "marker": "the null flag", "size": "the size",
          "tag": "the tag", "tail": "the tail"}
 

@@ -2,12 +2,14 @@
 from __future__ import annotations
 
 import json
+import re
 from dataclasses import dataclass
 from typing import Any, Optional
 
 STRICT, OTHER_STATUS, LENIENT, SKIPPED = "as strict", "as strict, with another status", "as lenient", "skipped"
 ANDROID = "as Android {}"
 WRONG = "WRONG "
+HEXADECIMAL = re.compile(r"-|([0-9a-fA-F]{2})+")
 
 
 @dataclass(frozen=True)
@@ -76,5 +78,7 @@ def of_writing(vector: dict[str, Any], line: Optional[str], why: str) -> str:
     if line == "skip":
         return SKIPPED
     if line is None:
-        return f"{WRONG}{why}: a value to write"
+        return f"{WRONG}{why}: {vector['cause']}"
+    if not HEXADECIMAL.fullmatch(line):
+        return f"{WRONG}no line of the protocol: {vector['cause']}"
     return STRICT if line.lower().replace("-", "") == vector["hex"] else f"{WRONG}written otherwise: {vector['cause']}"
