@@ -203,7 +203,7 @@ def compare_frozen(options: Options) -> Counts:
     if options.turn("hash", soong_hash(api / "1", "latest-version")) != kept:
         counts.differ("the hash of android.se.omapi 1 isn't by the formula:", kept)
     answer = program(options, "verify", api).lines
-    if not answer or options.turn("verify", answer[0]).split(" ")[:2] != ["1", "kept"]:
+    if not answer or options.turn("verify", " ".join(answer[0].split(" ")[:2])) != "1 kept":
         counts.differ("verify of android.se.omapi:", answer)
     counts.add("frozen versions whose hash is by the formula of Android's build, of which verify says kept")
     return counts
