@@ -92,10 +92,11 @@ class Mock:
 
     def job(self, *words: str, base: str = "base", imports: tuple = (COMMON,), **more: str) -> Came:
         options = [word for one in imports for word in ("-I", one)]
+        clean = {name: value for name, value in environment(AIDL=str(self.program)).items() if name != "ANDROID_AIDL"}
         ran = subprocess.run(
             [JOB, "--aosp", *options, *words, MODULE, NAME, *([base] if base else [])],
             cwd=self.room,
-            env=environment(AIDL=str(self.program), **more),
+            env={**clean, **more},
             capture_output=True,
             text=True,
             timeout=WAITS,
