@@ -130,7 +130,7 @@ def test_a_field_without_a_default_in_java_is_a_warning(mock):
     assert came.status == 0, came
     for field in ("name", "levels"):
         assert came.says(f"warning: j.light.State.{field} has no default in Java; Android 14's own check refuses it ({MODULE}/j/light/State.aidl:")
-    assert came.says("::warning::j.light.State.name has no default in Java")
+    assert came.says(f"::warning file={MODULE}/j/light/State.aidl,line=8,col=1::j.light.State.name has no default in Java")
 
 
 BREAKS = {
