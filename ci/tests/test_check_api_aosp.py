@@ -117,6 +117,14 @@ def test_unchanged_sources_follow_both_versions(mock):
     assert came.printed.index("replaced: float") < came.printed.index("aidl judge")
 
 
+def test_sources_in_another_folder(mock):
+    (mock.room / MODULE / "src").mkdir()
+    (mock.room / MODULE / "j").rename(mock.room / MODULE / "src/j")
+    came = mock.job("--sources", f"{MODULE}/src")
+    assert came.status == 0 and came.says(f"aidl judge {API}/2 {MODULE}/src\nyes"), came
+    assert mock.job().status == 1
+
+
 def test_additions_follow(mock):
     mock.edit(f"{MODULE}/j/light/ILight.aidl", "more);\n}", "more);\n    IBinder token(double d, in List<ICallback> all);\n}")
     mock.edit(f"{MODULE}/j/light/State.aidl", "0.5;\n", "0.5;\n    float[] levels = {};\n    @nullable ICallback who;\n    int[2] pair = {0, 0};\n")
