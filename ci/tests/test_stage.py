@@ -98,6 +98,14 @@ def test_bytes_of_comments_and_line_ends_stay(tmp_path):
     assert (tmp_path / "out/old/j/P.aidl").read_bytes() == text.replace(b"float", b"standin.Float")
 
 
+def test_an_annotation_behind_oneway_goes_in_front_of_it(tmp_path):
+    (tmp_path / "old/j").mkdir(parents=True)
+    (tmp_path / "old/j/I.aidl").write_text('package j; interface I {\n  oneway @EnforcePermission(allOf = {"a", // b\n "c"}) void f(); }')
+    stage(str(tmp_path / "old"), str(tmp_path / "old"), [], str(tmp_path / "out"))
+    copied = (tmp_path / "out/old/j/I.aidl").read_text()
+    assert copied == 'package j; interface I {\n  @EnforcePermission(allOf = { "a" , "c" }) oneway \n void f(); }'
+
+
 def command(*words: str) -> subprocess.CompletedProcess:
     return subprocess.run([TOP / "ci/stage", *words], capture_output=True, text=True)
 
