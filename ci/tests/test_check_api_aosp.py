@@ -92,10 +92,11 @@ class Mock:
 
     def job(self, *words: str, base: str = "base", imports: tuple = (COMMON,), **more: str) -> Came:
         options = [word for one in imports for word in ("-I", one)]
+        clean = {name: value for name, value in environment(AIDL=str(self.program)).items() if name != "ANDROID_AIDL"}
         ran = subprocess.run(
             [JOB, "--aosp", *options, *words, MODULE, NAME, *([base] if base else [])],
             cwd=self.room,
-            env=environment(AIDL=str(self.program), **more),
+            env={**clean, **more},
             capture_output=True,
             text=True,
             timeout=WAITS,
@@ -116,6 +117,14 @@ def test_unchanged_sources_follow_both_versions(mock):
     assert came.printed.index("replaced: float") < came.printed.index("aidl judge")
 
 
+def test_sources_in_another_folder(mock):
+    (mock.room / MODULE / "src").mkdir()
+    (mock.room / MODULE / "j").rename(mock.room / MODULE / "src/j")
+    came = mock.job("--sources", f"{MODULE}/src")
+    assert came.status == 0 and came.says(f"aidl judge {API}/2 {MODULE}/src\nyes"), came
+    assert mock.job().status == 1
+
+
 def test_additions_follow(mock):
     mock.edit(f"{MODULE}/j/light/ILight.aidl", "more);\n}", "more);\n    IBinder token(double d, in List<ICallback> all);\n}")
     mock.edit(f"{MODULE}/j/light/State.aidl", "0.5;\n", "0.5;\n    float[] levels = {};\n    @nullable ICallback who;\n    int[2] pair = {0, 0};\n")
@@ -129,7 +138,7 @@ def test_a_field_without_a_default_in_java_is_a_warning(mock):
     assert came.status == 0, came
     for field in ("name", "levels"):
         assert came.says(f"warning: j.light.State.{field} has no default in Java; Android 14's own check refuses it ({MODULE}/j/light/State.aidl:")
-    assert came.says("::warning::j.light.State.name has no default in Java")
+    assert came.says(f"::warning file={MODULE}/j/light/State.aidl,line=8,col=1::j.light.State.name has no default in Java")
 
 
 BREAKS = {

@@ -16,7 +16,6 @@ from conftest import TOP
 from aidl_ci.standins import stage
 from aidl_ci.standins.lexer import Refused
 
-STAGE = TOP / "ci" / "stage"
 PAIRS = pathlib.Path(__file__).parent / "data" / "standins.pairs"
 FILE = re.compile(r"(old|new|both|import) (\S+): (.*)")
 
@@ -57,6 +56,13 @@ def read_pairs(path: pathlib.Path) -> list[Pair]:
     return pairs
 
 
+def keeps_its_lines(tree: pathlib.Path, copy: pathlib.Path) -> None:
+    """Each file of a tree has a copy with as many lines."""
+    for path in tree.rglob("*.aidl"):
+        copied = copy / path.relative_to(tree)
+        assert copied.read_bytes().count(b"\n") == path.read_bytes().count(b"\n"), path
+
+
 @pytest.mark.parametrize("pair", read_pairs(PAIRS), ids=lambda pair: pair.name)
 def test_a_pair_comes_to_what_is_true(pair, program, tmp_path, monkeypatch):
     pair.write(tmp_path)
@@ -69,9 +75,58 @@ def test_a_pair_comes_to_what_is_true(pair, program, tmp_path, monkeypatch):
         assert not os.path.exists("out")
         return
     stage("old", "new", ["import"], "out")
+    keeps_its_lines(tmp_path / "old", tmp_path / "out/old")
     judged = subprocess.run([program, "judge", "out/old", "out/new"], capture_output=True, text=True)
     assert set(judged.stdout.splitlines()) == pair.wanted
     assert judged.returncode == (0 if pair.wanted == {"yes"} else 1)
+
+
+@pytest.mark.parametrize("tree", ["lights/1", "lights/3", "fan/2", "sensors"])
+def test_what_is_read_is_copied_to_the_byte(tree, tmp_path):
+    stage(str(TOP / "examples" / tree), str(TOP / "examples" / tree), [], str(tmp_path))
+    files = sorted(path.relative_to(TOP / "examples" / tree) for path in (TOP / "examples" / tree).rglob("*.aidl"))
+    for copy in (tmp_path / "old", tmp_path / "new"):
+        assert sorted(path.relative_to(copy) for path in copy.rglob("*.aidl")) == files
+        assert all((copy / path).read_bytes() == (TOP / "examples" / tree / path).read_bytes() for path in files)
+
+
+def test_bytes_of_comments_and_line_ends_stay(tmp_path):
+    text = b"package j;\r\n// \xff\xfe \xc3\xbc\r\nparcelable P {\r\n\tfloat\r\n a; // \xe4\r\n}"
+    (tmp_path / "old/j").mkdir(parents=True)
+    (tmp_path / "old/j/P.aidl").write_bytes(text)
+    stage(str(tmp_path / "old"), str(tmp_path / "old"), [], str(tmp_path / "out"))
+    assert (tmp_path / "out/old/j/P.aidl").read_bytes() == text.replace(b"float", b"standin.Float")
+
+
+def test_an_annotation_behind_oneway_goes_in_front_of_it(tmp_path):
+    (tmp_path / "old/j").mkdir(parents=True)
+    (tmp_path / "old/j/I.aidl").write_text('package j; interface I {\n  oneway @EnforcePermission(allOf = {"a", // b\n "c"}) void f(); }')
+    stage(str(tmp_path / "old"), str(tmp_path / "old"), [], str(tmp_path / "out"))
+    copied = (tmp_path / "out/old/j/I.aidl").read_text()
+    assert copied == 'package j; interface I {\n  @EnforcePermission(allOf = { "a" , "c" }) oneway \n void f(); }'
+
+
+def command(*words: str) -> subprocess.CompletedProcess:
+    return subprocess.run([TOP / "ci/stage", *words], capture_output=True, text=True)
+
+
+def test_the_command_says_what_it_replaced(tmp_path):
+    module = TOP / "examples/aosp/vibrator/aidl"
+    came = command("-I", str(TOP / "examples/aosp/common/aidl_api/common/1"), str(tmp_path), str(module / "aidl_api/vibrator/1"), str(module))
+    assert came.returncode == 0 and not came.stderr
+    assert "replaced: double (0 and 1 times): standin.Double, an enum of 64 bits\n" in came.stdout
+    assert len(came.stdout.splitlines()) == 10
+
+
+def test_faults_of_the_command_end_with_2(tmp_path):
+    lights = str(TOP / "examples/lights/1")
+    (tmp_path / "full/old").mkdir(parents=True)
+    (tmp_path / "full/old/file").write_text("")
+    (tmp_path / "empty").mkdir()
+    for words in ([], ["out"], [str(tmp_path / "full"), lights, lights], [str(tmp_path / "out"), lights, str(tmp_path / "gone")], [str(tmp_path / "out"), str(tmp_path / "empty"), lights], ["-I", "gone", str(tmp_path / "out"), lights, lights]):
+        came = command(*words)
+        assert came.returncode == 2 and came.stderr and not came.stdout, words
+    assert not (tmp_path / "out").exists()
 
 
 # What Android 14's compiler says where it doesn't read a tree.

@@ -25,12 +25,13 @@ replaced."""
 
 def options_of(words: list[str]) -> argparse.Namespace:
     reader = arguments("check-api --aosp", DESCRIPTION)
-    reader.usage = "check-api --aosp [-I IMPORTS].. [--android-aidl AIDL] MODULE NAME [BASE]"
+    reader.usage = "check-api --aosp [-I IMPORTS].. [--sources DIR] [--android-aidl AIDL] MODULE NAME [BASE]"
     reader.epilog = "AIDL names the program, ANDROID_AIDL Android's compiler. docs/MIGRATING.md says more."
     reader.add_argument("--aosp", action="store_true", help=argparse.SUPPRESS)
     reader.add_argument("-I", dest="imports", metavar="IMPORTS", action="append", default=[], help="a frozen version of an imported module, as OTHER/aidl_api/NAME/2")
+    reader.add_argument("--sources", metavar="DIR", help="the folder of the sources, if it isn't MODULE: the `local_include_dir` of Android.bp")
     reader.add_argument("--android-aidl", metavar="AIDL", help="Android's own compiler, for the comparison of `current` with the sources")
-    reader.add_argument("module", metavar="MODULE", help=f"the folder of the sources, which has {FROZEN}/NAME")
+    reader.add_argument("module", metavar="MODULE", help=f"the folder that has {FROZEN}/NAME and the sources")
     reader.add_argument("name", metavar="NAME", help=f"the name of the module, below MODULE/{FROZEN}")
     reader.add_argument("base", metavar="BASE", nargs="?", help="the git revision whose frozen versions have to be as they were")
     return reader.parse_intermixed_args(words)
@@ -43,7 +44,8 @@ class Module:
         self.options, self.log = options, log
         self.module = options.module.rstrip("/") or "/"
         self.api = os.path.join(self.module, FROZEN, options.name)
-        for folder in [self.module, *options.imports]:
+        self.sources = (options.sources or self.module).rstrip("/") or "/"
+        for folder in [self.module, self.sources, *options.imports]:
             if not os.path.isdir(folder):
                 raise Fault(f"there is no folder {folder}")
         self.program = Program()
@@ -58,7 +60,7 @@ class Module:
         for number, folder in enumerate(versions, 1):
             self.verify(number, folder)
         trees = [Tree(folder, self.options.imports) for folder in versions]
-        trees.append(Tree(self.module, self.options.imports, outside=[FROZEN]))
+        trees.append(Tree(self.sources, self.options.imports, outside=[FROZEN]))
         for tree in trees:
             self.want_frozen_imports(tree)
         with tempfile.TemporaryDirectory() as room:
@@ -126,10 +128,10 @@ class Module:
         """The dump of the module's own sources by Android's compiler."""
         own = [path for path in tree.sources if path not in tree.imported]
         stable = any(one.has("VintfStability") for path in own for one in tree.sources[path].declarations)
-        folders = [word for folder in [self.module, *self.options.imports] for word in ("-I", folder)]
+        folders = [word for folder in [self.sources, *self.options.imports] for word in ("-I", folder)]
         words = [compiler, "--structured", "--dumpapi", *(["--stability=vintf"] if stable else []), *folders, "--out", room]
         try:
-            ran = subprocess.run([*words, *(os.path.join(self.module, path) for path in own)], capture_output=True, check=False)
+            ran = subprocess.run([*words, *(os.path.join(self.sources, path) for path in own)], capture_output=True, check=False)
         except (OSError, ValueError) as why:
             raise Fault(f"{compiler} can't be run: {why}") from why
         if ran.returncode:

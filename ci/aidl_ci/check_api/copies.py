@@ -15,8 +15,6 @@ from ..standins.tree import Tree
 from .judging import ADVICE
 from .log import Finder, Log
 
-JAVA = "{} has no default in Java; Android 14's own check refuses it"
-
 
 class Copies:
     """The copies of some trees, which follow one another. Each tree is called by the path of its original."""
@@ -60,9 +58,7 @@ class Copies:
         """Ends the job where a tree may not follow another. What was replaced in them stands in front."""
         for one in self.stand_ins(old, new):
             self.log.show(one.line())
-        for place, at in warned(self.trees[old], self.trees[new]):
-            self.log.show(f"warning: {JAVA.format(place)} ({at})")
-            self.log.annotate(JAVA.format(place), "warning")
+        self.log.warn(warned(self.trees[old].declared, self.trees[new].declared))
         ran = self.run("judge", old, new)
         if ran.status == 0 and ran.lines != ["yes"]:
             raise Fault(f"aidl judge ended with exit 0, and printed no yes: {ran.lines[:1]}")

@@ -10,6 +10,7 @@ from typing import Optional
 from ..guard import Fault, Stop, arguments
 from ..printing import use_utf8
 from ..program import Program
+from ..standins.java import declared, warned
 from . import aosp, beside, keeping, unfrozen
 from .judging import ADVICE, Judge
 from .log import Log
@@ -72,6 +73,7 @@ class Job:
     def want_yes(self, old: str, new: str) -> None:
         """Ends the job where a tree may not follow another. The report is of the two trees that it ends with."""
         yes = self.judge.judge(old, new)
+        self.log.warn(warned(declared(old), declared(new)))
         if self.options.report is not None and (not yes or new == self.tree):
             beside.leave(self.judge, self.options.report, old, new, not yes)
         if not yes:

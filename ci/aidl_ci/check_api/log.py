@@ -77,6 +77,12 @@ class Log:
         if self.github:
             self.say(annotation(text, place.path, place.line, place.column, level) if place else annotation(text, level=level))
 
+    def warn(self, warnings: Iterable[tuple[str, str, int]]) -> None:
+        """What is no part of the verdict, each with its file and its line."""
+        for said, path, line in warnings:
+            self.show(f"warning: {said} ({path}:{line})")
+            self.annotate(said, "warning", Place(path, line, 1, 1, ""))
+
     def command(self, words: Iterable[str]) -> None:
         self.show(" ".join(["aidl", *words]))
 

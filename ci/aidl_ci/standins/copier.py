@@ -30,7 +30,7 @@ OF_NO_BYTE = {
     "UnsupportedAppUsage",
 }
 OF_CONSTANTS = OF_NO_BYTE | {"nullable", "utf8InCpp"}
-OF_UNSTRUCTURED = OF_NO_BYTE | {"JavaOnlyStableParcelable", "NdkOnlyStableParcelable", "RustOnlyStableParcelable", "VintfStability", "FixedSize"}
+OF_UNSTRUCTURED = OF_NO_BYTE | {"JavaOnlyStableParcelable", "NdkOnlyStableParcelable", "RustOnlyStableParcelable", "VintfStability"}
 
 
 class Edits:

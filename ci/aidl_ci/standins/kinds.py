@@ -71,8 +71,6 @@ class Kinds:
         declared = self.tree.declared[full]
         if type_.arguments:
             return self.text(scope, type_, brackets=False)
-        if declared.parameters:
-            return f"{full} without arguments"
         return f"interface {full}" if declared.kind == "interface" else None
 
     def text(self, scope: Declaration, type_: Type, brackets: bool = True) -> str:
