@@ -62,8 +62,10 @@ class Case:
     def arguments(self) -> list[tuple[Declaration, Argument]]:
         return [(one, argument) for one, member in self.members("method", "interface") for argument in member.arguments]
 
-    def meaning(self, scope: Declaration, type_: Type) -> Optional[Declaration]:
-        return self.tree.declared.get(self.tree.meaning(scope, type_.base) or "")
+    def kind(self, scope: Declaration, type_: Type) -> str:
+        """The kind of declaration that a type means, or ""."""
+        found = self.tree.declared.get(self.tree.meaning(scope, type_.base) or "")
+        return found.kind if found else ""
 
     def numbered(self, declaration: Declaration) -> bool:
         """Whether the methods of an interface have numbers."""
@@ -85,9 +87,9 @@ def at(place: int) -> Span:
 def another_type(case: Case) -> Optional[Files]:
     fields = [(one, member.type) for one, member in case.members("field", "parcelable", "union") if not member.value]
     results = [(one, member.type) for one, member in case.members("method", "interface")]
-    found = [(one, type_) for one, type_ in [*fields, *results, *((one, argument.type) for one, argument in case.arguments() if argument.direction in ("", "in"))]]
-    found = [(one, type_) for one, type_ in found if type_ and not type_.annotations and not type_.arguments and not type_.lengths]
-    usable = [(type_, BASES.get(type_.base) or "IBinder") for one, type_ in found if type_.base in BASES or getattr(case.meaning(one, type_), "kind", "") == "interface"]
+    sent = [(one, argument.type) for one, argument in case.arguments() if argument.direction in ("", "in")]
+    found = [(one, type_) for one, type_ in fields + results + sent if type_ and not (type_.annotations or type_.arguments or type_.lengths)]
+    usable = [(type_, BASES.get(type_.base) or "IBinder") for one, type_ in found if type_.base in BASES or case.kind(one, type_) == "interface"]
     picked = case.one(usable)
     return case.changed((picked[0].span, picked[1])) if picked else None
 
@@ -112,7 +114,8 @@ def argument_more(case: Case) -> Optional[Files]:
 
 
 def may_be_null(case: Case) -> Optional[Files]:
-    found = [type_ for one, argument in case.arguments() for type_ in [argument.type] if not type_.annotations and (type_.base in ("IBinder", "String") or getattr(case.meaning(one, type_), "kind", "") in ("interface", "parcelable"))]
+    plain = [(one, argument.type) for one, argument in case.arguments() if not argument.type.annotations]
+    found = [type_ for one, type_ in plain if type_.base in ("IBinder", "String") or case.kind(one, type_) in ("interface", "parcelable")]
     picked = case.one(found)
     return case.changed((at(picked.span.start), "@nullable ")) if picked else None
 
@@ -123,8 +126,8 @@ def without_field(case: Case) -> Optional[Files]:
 
 
 def fields_turned(case: Case) -> Optional[Files]:
-    found = [pair for one in case.source.all() if one.kind == "parcelable" for pair in zip([each for each in one.members if each.kind == "field"], [each for each in one.members if each.kind == "field"][1:])]
-    picked = case.one(found)
+    fields = [[each for each in one.members if each.kind == "field"] for one in case.source.all() if one.kind == "parcelable"]
+    picked = case.one([pair for each in fields for pair in zip(each, each[1:])])
     if not picked:
         return None
     first, second = map(whole, picked)
@@ -167,7 +170,10 @@ def with_body(case: Case) -> Optional[Files]:
 def other_number(case: Case) -> Optional[Files]:
     found = [member.value for _, member in case.members("constant", "interface", "parcelable") if member.type and member.type.base in ("int", "float", "double") and member.value]
     picked = case.one([one for one in found if one and len(one.tokens) == 1 and one.tokens[0].kind == "number"])
-    return case.changed((picked.span, "77.25f" if "f" in picked.tokens[0].text.lower() or "." in picked.tokens[0].text else "7725")) if picked else None
+    if not picked:
+        return None
+    fraction = "." in picked.tokens[0].text or picked.tokens[0].text.lower().endswith("f") and "x" not in picked.tokens[0].text.lower()
+    return case.changed((picked.span, "77.25f" if fraction else "7725"))
 
 
 def other_descriptor(case: Case) -> Optional[Files]:
@@ -232,7 +238,8 @@ def imports_turned(case: Case) -> Optional[Files]:
 
 
 def direction(case: Case) -> Optional[Files]:
-    found = [argument for one, argument in case.arguments() if not argument.direction and not argument.type.lengths and (argument.type.base in ("IBinder", "CharSequence") or getattr(case.meaning(one, argument.type), "kind", "") == "interface")]
+    plain = [(one, argument) for one, argument in case.arguments() if not argument.direction and not argument.type.lengths]
+    found = [argument for one, argument in plain if argument.type.base in ("IBinder", "CharSequence") or case.kind(one, argument.type) == "interface"]
     return case.changed(*((at(one.start), "in ") for one in found)) if found else None
 
 
@@ -268,12 +275,17 @@ class Kind:
 
 ACCEPTS, REFUSES = "accepts", "refuses"
 KINDS = [
-    *(Kind(edit, False) for edit in (another_type, without_method, method_in_front, argument_more, without_field, fields_turned, another_package, oneway, with_body)),
-    *(Kind(edit, False) for edit in (other_number, other_descriptor, other_element, without_enumerator)),
+    *(Kind(edit, False) for edit in (another_type, without_method, method_in_front, argument_more, without_field, fields_turned, another_package)),
+    *(Kind(edit, False) for edit in (oneway, with_body, other_number, other_descriptor, other_element, without_enumerator)),
     Kind(may_be_null, False, ACCEPTS),  # it doesn't compare whether an argument may be null
-    *(Kind(edit, True) for edit in (unchanged, method_at_the_end, field_at_the_end, argument_renamed, blanks, full_names, imports_turned, direction, new_type, constant_more)),
+    *(Kind(edit, True) for edit in (unchanged, method_at_the_end, field_at_the_end, argument_renamed, blanks, full_names, imports_turned)),
+    *(Kind(edit, True) for edit in (direction, new_type, constant_more)),
     Kind(own_descriptor, True, REFUSES),  # it compares the annotations
 ]
+
+
+# What Android's tool says where it doesn't read a tree.
+UNREAD = re.compile(r"Failed to (?:read|resolve|parse)|find import|syntax error|must have stability|does not have .*stability")
 
 
 def write(folder: str, texts: Files) -> None:
@@ -289,8 +301,7 @@ def android_says(compiler: str, room: str) -> str:
     ran = subprocess.run([compiler, "--checkapi=compatible", "old", "new"], cwd=room, capture_output=True, text=True, check=False)
     if ran.returncode == 0:
         return ACCEPTS
-    unread = ("Failed to", "find import", "syntax error", "not structured", "is not supported", "can only", "untyped", "direction of", "not available", "does not have stability")
-    return "reads neither" if any(text in ran.stderr for text in unread) else REFUSES
+    return "reads neither" if UNREAD.search(ran.stderr) else REFUSES
 
 
 def trial(kind: Kind, case: Case, program: Program, compiler: Optional[str]) -> Iterator[str]:
@@ -329,7 +340,7 @@ def is_structured(case: Case) -> bool:
     """Whether Android's tool reads the tree, and it has a type that the profile leaves out."""
     declared = case.tree.declared.values()
     return all(one.structured for one in declared) and any(
-        type_.base in LEFT_OUT or getattr(case.meaning(one, type_), "kind", "") == "interface" for one in declared for type_ in one.types()
+        type_.base in LEFT_OUT or case.kind(one, type_) == "interface" for one in declared for type_ in one.types()
     )
 
 
@@ -361,9 +372,10 @@ def main(words: list[str]) -> int:
     def of_kind(kind: Kind) -> list[str]:
         told = []
         for case in trees:
-            if sum(kind.came[one] for one in ("yes", "no")) >= options.each or kind.came["refused"] + kind.came["not read"] > options.each:
+            if kind.came["yes"] + kind.came["no"] >= options.each or kind.came["refused"] + kind.came["not read"] > options.each:
                 break
-            told += [f"{case.path}: {line}" for line in trial(kind, Case(case.tree, case.path, random.Random(f"{options.seed}{kind.name}{case.path}")), program, options.android)]
+            drawn = Case(case.tree, case.path, random.Random(f"{options.seed}{kind.name}{case.path}"))
+            told += [f"{case.path}: {line}" for line in trial(kind, drawn, program, options.android)]
         return told
 
     with ThreadPoolExecutor(2) as workers:
@@ -372,7 +384,8 @@ def main(words: list[str]) -> int:
             for line in told:
                 print(f"    {line}")
     total = sum((kind.came for kind in KINDS), collections.Counter())
-    print(f"{total['yes'] + total['no']} edits, {total['FALSE']} false, {total['refused'] + total['not read']} refused; Android's tool differs otherwise in {total['14 DIFFERS']}")
+    refused = total["refused"] + total["not read"]
+    print(f"{total['yes'] + total['no']} edits, {total['FALSE']} false, {refused} refused; Android's tool differs otherwise in {total['14 DIFFERS']}")
     return 1 if total["FALSE"] or total["14 DIFFERS"] else 0
 
 

@@ -94,9 +94,10 @@ def main(words: list[str]) -> int:
     for (root, path), answer in zip(asked, answers):
         if options.show and answer.startswith("refused"):
             print(f"{root}/{path}: {answer}")
-    read = sum(not answer.startswith("refused by check: syntax") for answer in answers)
-    print(f"{len(asked)} interfaces and types with a body, {sum(one in ('as it lies', 'through stand-ins') for one in answers)} read, {read} read or refused by a rule")
-    return 0 if read >= options.least else 1
+    read = sum(one in ("as it lies", "through stand-ins") for one in answers)
+    told = sum(not answer.startswith("refused by check: syntax") for answer in answers)
+    print(f"{len(asked)} interfaces and types with a body, {read} read, {told} read or refused by a rule")
+    return 0 if told >= options.least else 1
 
 
 if __name__ == "__main__":

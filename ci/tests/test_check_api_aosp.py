@@ -236,9 +236,9 @@ def test_before_the_first_freeze(mock):
     assert came.status == 0 and came.says("follow nothing yet"), came
 
 
-@pytest.mark.parametrize("words", [["--aosp"], ["--aosp", "light"], ["--aosp", "--frozen", MODULE, NAME], ["--aosp", "gone", NAME], ["--aosp", MODULE, "gone"], ["--aosp", "-I", "gone", MODULE, NAME]])
+@pytest.mark.parametrize("words", [[], ["light"], ["--frozen", MODULE, NAME], ["gone", NAME], [MODULE, "gone"], ["-I", "gone", MODULE, NAME]])
 def test_faulty_command_lines_end_with_2(mock, words):
-    ran = subprocess.run([JOB, *words], cwd=mock.room, env=environment(AIDL=str(mock.program)), capture_output=True, text=True, timeout=WAITS)
+    ran = subprocess.run([JOB, "--aosp", *words], cwd=mock.room, env=environment(AIDL=str(mock.program)), capture_output=True, text=True, timeout=WAITS)
     assert ran.returncode == 2 and ran.stderr and not ran.stdout
 
 

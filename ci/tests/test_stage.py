@@ -123,7 +123,8 @@ def test_faults_of_the_command_end_with_2(tmp_path):
     (tmp_path / "full/old").mkdir(parents=True)
     (tmp_path / "full/old/file").write_text("")
     (tmp_path / "empty").mkdir()
-    for words in ([], ["out"], [str(tmp_path / "full"), lights, lights], [str(tmp_path / "out"), lights, str(tmp_path / "gone")], [str(tmp_path / "out"), str(tmp_path / "empty"), lights], ["-I", "gone", str(tmp_path / "out"), lights, lights]):
+    out, full, empty, gone = (str(tmp_path / name) for name in ("out", "full", "empty", "gone"))
+    for words in ([], ["out"], [full, lights, lights], [out, lights, gone], [out, empty, lights], ["-I", gone, out, lights, lights]):
         came = command(*words)
         assert came.returncode == 2 and came.stderr and not came.stdout, words
     assert not (tmp_path / "out").exists()

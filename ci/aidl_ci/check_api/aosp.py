@@ -28,7 +28,8 @@ def options_of(words: list[str]) -> argparse.Namespace:
     reader.usage = "check-api --aosp [-I IMPORTS].. [--sources DIR] [--android-aidl AIDL] MODULE NAME [BASE]"
     reader.epilog = "AIDL names the program, ANDROID_AIDL Android's compiler. docs/MIGRATING.md says more."
     reader.add_argument("--aosp", action="store_true", help=argparse.SUPPRESS)
-    reader.add_argument("-I", dest="imports", metavar="IMPORTS", action="append", default=[], help="a frozen version of an imported module, as OTHER/aidl_api/NAME/2")
+    frozen = "a frozen version of an imported module, as OTHER/aidl_api/NAME/2"
+    reader.add_argument("-I", dest="imports", metavar="IMPORTS", action="append", default=[], help=frozen)
     reader.add_argument("--sources", metavar="DIR", help="the folder of the sources, if it isn't MODULE: the `local_include_dir` of Android.bp")
     reader.add_argument("--android-aidl", metavar="AIDL", help="Android's own compiler, for the comparison of `current` with the sources")
     reader.add_argument("module", metavar="MODULE", help=f"the folder that has {FROZEN}/NAME and the sources")
@@ -80,7 +81,8 @@ class Module:
         for path, shown in sorted(tree.imported.items()):
             folder = next(one for one in self.options.imports if os.path.join(one, path) == shown)
             if not frozen[folder] and any(one.structured for one in tree.sources[path].declarations):
-                raise Fault(f"{shown} is imported and isn't frozen: -I has to name a frozen version of its module, as OTHER/{FROZEN}/NAME/2, whose .hash is right")
+                wanted = f"-I has to name a frozen version of its module, as OTHER/{FROZEN}/NAME/2, whose .hash is right"
+                raise Fault(f"{shown} is imported and isn't frozen: {wanted}")
 
     def follow(self, copies: Copies) -> None:
         """Each version follows the one before it, and the sources follow the latest."""

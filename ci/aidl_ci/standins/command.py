@@ -8,7 +8,8 @@ from . import stage
 
 DESCRIPTION = """Copies the tree OLD to OUT/old and the tree NEW to OUT/new, each beside what it imports, and puts a stand-in of its own into the place of
 each type that `aidl` leaves out, the same in both. So `aidl judge OUT/old OUT/new` can compare them. Prints what was replaced, how often in OLD and in
-NEW, and by what. A folder `aidl_api` in OLD or NEW is left out. Nothing is proved of what was replaced. Ends with 2 where a copy would be a guess, with the file and the line."""
+NEW, and by what. A folder `aidl_api` in OLD or NEW is left out. Nothing is proved of what was replaced. Ends with 2 where a copy would be a guess, with
+the file and the line."""
 
 
 def main(words: list[str]) -> int:
