@@ -9,10 +9,11 @@ import dataclasses
 import os
 import pathlib
 import re
-from typing import Callable, Iterator, List, NamedTuple, Optional
+from typing import Callable, Iterator, List, NamedTuple, Optional, Tuple
 
 HERE = pathlib.Path(__file__).resolve().parent.parent
 TOP = HERE.parent.parent
+HOSTS = ("v10", "v29", "v34", "ndk")  # the libbinders that `build` compiles; backends.py says what each is
 
 
 class CouldNotRun(Exception):
@@ -48,6 +49,7 @@ class Options:
     seed: int = 1
     count: Optional[int] = None
     sabotage: Optional[Sabotage] = None
+    hosts: Tuple[str, ...] = HOSTS
 
     def amount(self, default: int) -> int:
         """How many random things are compared."""

@@ -1,0 +1,8 @@
+package newer;
+
+import calls.Sample;
+
+union Choice {
+    int number;
+    calls.Sample sample;
+}

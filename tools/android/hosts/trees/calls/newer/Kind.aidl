@@ -1,0 +1,6 @@
+package newer;
+
+@Backing(type="long") enum Kind {
+    FIRST = 0,
+    SECOND = -3,
+}

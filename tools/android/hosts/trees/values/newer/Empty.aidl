@@ -1,0 +1,4 @@
+package newer;
+
+parcelable Empty {
+}

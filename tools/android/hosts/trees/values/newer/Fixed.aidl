@@ -1,0 +1,5 @@
+package newer;
+
+@FixedSize parcelable Fixed {
+    long a = -9;
+}

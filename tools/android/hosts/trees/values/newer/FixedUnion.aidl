@@ -1,0 +1,6 @@
+package newer;
+
+@FixedSize union FixedUnion {
+    int a;
+    long b;
+}

@@ -1,0 +1,6 @@
+package values;
+
+parcelable Node {
+    int key;
+    values.Node[] below;
+}

@@ -1,3 +1,0 @@
-package values;
-
-@Backing(type="byte") enum ByteKind { FIRST = 0, SECOND = 2, LAST = -128 }

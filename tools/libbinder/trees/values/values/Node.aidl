@@ -1,6 +1,0 @@
-package values;
-
-parcelable Node {
-    int key;
-    Node[] below;
-}
