@@ -9,7 +9,8 @@ from typing import Any, Iterator, List, Tuple
 import page_figures
 
 TYPES = {"R": 'parcelable R { int a; String s = "x"; }', "U": "union U { int a; String b; }", "B": "enum B { A }",
-         "L": '@Backing(type="long") enum L { A }', "S": "parcelable S { int a; }", "Node": "parcelable Node { int key; Node[] below; }"}
+         "L": '@Backing(type="long") enum L { A }', "S": "parcelable S { int a; }", "Node": "parcelable Node { int key; Node[] below; }",
+         "Empty": "parcelable Empty {}", "FixedUnion": "@FixedSize union FixedUnion { int a; long b; }"}
 WAITS = 300
 
 Case = Tuple[int, str, Any, Any]

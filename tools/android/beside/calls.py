@@ -5,6 +5,7 @@ import re
 from typing import Any, Dict, Iterator, List, NamedTuple, Union
 
 from .base import HERE, Counts, Options, Trial
+from .damaged import is_on_page
 from .hosts import HASH, Host, family, fixed, printed
 from .joined import SYST, compare
 from .reader import STATUSES
@@ -78,6 +79,8 @@ def compare_row(options: Options, host: Host, row: Request) -> Counts:
     replayed = replay_said(options, host.tree, row.interface, row.code, token(row.token, False) + sent)
     if replayed != said(row.replay):
         counts.differ("the row", row.name, "says", row.replay, "replay", replayed)
+    if not is_on_page(row.does, row.bytes):
+        counts.differ("the row", row.name, "isn't on docs/BYTES.md")
     counts.add(f"requests of docs/BYTES.md sent, {host.title}")
     return counts
 

@@ -6,7 +6,7 @@ import random
 import re
 from typing import Any, Dict, Iterator, List, NamedTuple, Optional, Tuple, Union
 
-from .base import Counts, Options, Trial
+from .base import TOP, Counts, Options, Trial
 from .hosts import Host, family, fixed, printed
 from .reader import ANY, STATUSES, Reader, Row, Stop, rows_of_table
 from .schema import Type
@@ -159,6 +159,12 @@ def said(cell: str, size: int) -> Optional[Reading]:
     return json.loads(found[1]), size + (behind if found[3] == "past the end" else -behind)
 
 
+def is_on_page(does: str, data: str) -> bool:
+    """Whether a row of docs/BYTES.md has these words and these bytes."""
+    lines = (TOP / "docs/BYTES.md").read_text(encoding="utf-8").split("\n")
+    return any(line.startswith(f"| {does} |") and data in line for line in lines)
+
+
 def compare_row(options: Options, host: Host, row: Row) -> Counts:
     """A row's example, by the program and by a libbinder that it speaks of."""
     counts, number = Counts(), re.fullmatch(r"(\d+) in one another", row.bytes)
@@ -169,6 +175,8 @@ def compare_row(options: Options, host: Host, row: Row) -> Counts:
     is_whole = row.libbinder == "read to its end"
     if (isinstance(theirs, tuple) and theirs[1] != len(case.data)) if is_whole else theirs != said(row.libbinder, len(case.data)):
         counts.differ("the row", row.name, "says", row.libbinder, host.title, theirs)
+    if not is_on_page(row.does, row.bytes):
+        counts.differ("the row", row.name, "isn't on docs/BYTES.md")
     counts.add(f"rows of docs/BYTES.md run, {host.title}")
     return counts
 
