@@ -18,7 +18,7 @@ ELSEWHERE |= {"aidl_interface", "aidl_api", "versions_with_info", "cpp_header", 
 # names that the page about forms makes up, or that were there before
 ELSEWHERE |= {"IsAlwaysCallable", "SplitsAtFirstByte", "EndsAlike", "ExtraK", "Equivalent"}
 # of libbinder
-ELSEWHERE |= {"get_sched_policy", "set_sched_policy", "BBinder"}
+ELSEWHERE |= {"get_sched_policy", "set_sched_policy", "BBinder", "AParcel_readData", "AParcel_writeData"}
 # options of the kit's commands, and of git's and the system's
 OPTIONS = {"--only", "--lib", "--start", "--allow-holes", "--no-patch", "--format", "--tool"}
 CLAUSES = r"(?:ensures|requires|law) (\w+) \{"

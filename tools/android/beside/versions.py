@@ -2,7 +2,7 @@
 from typing import Dict, Iterator
 
 from .base import Counts, Options, Trial
-from .hosts import Host, family
+from .hosts import Host, family, printed
 from .joined import compare
 
 DIRECTIONS = (("old", "new"), ("new", "old"))
@@ -19,6 +19,9 @@ def run(options: Options) -> Counts:
     """Calls in both directions, of each backend."""
     counts = Counts()
     for title, hosts in pairs(options):
+        judged = printed(options, "judge", hosts["old"].tree, hosts["new"].tree)
+        if judged[:1] != ["yes"]:
+            counts.differ("judge says of the random trees", *judged)
         for client, server in DIRECTIONS:
             counts.join(compare(options, hosts[client], hosts[server], f"{title}, {client} proxy to {server} stub", options.amount(13000)))
     return counts
