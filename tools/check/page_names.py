@@ -18,7 +18,7 @@ ELSEWHERE |= {"aidl_interface", "aidl_api", "versions_with_info", "cpp_header", 
 # names that the page about forms makes up, or that were there before
 ELSEWHERE |= {"IsAlwaysCallable", "SplitsAtFirstByte", "EndsAlike", "ExtraK", "Equivalent"}
 # of libbinder
-ELSEWHERE |= {"get_sched_policy", "set_sched_policy", "BBinder"}
+ELSEWHERE |= {"get_sched_policy", "set_sched_policy", "BBinder", "Parcel.cpp", "Parcel.h", "Status.cpp", "Status.h", "Binder.cpp", "IPCThreadState.cpp", "ProcessState.cpp"}
 # options of the kit's commands, and of git's and the system's
 OPTIONS = {"--only", "--lib", "--start", "--allow-holes", "--no-patch", "--format", "--tool"}
 CLAUSES = r"(?:ensures|requires|law) (\w+) \{"
@@ -118,7 +118,7 @@ class Names:
 
     def is_example(self, name: str, line: str) -> bool:
         """Whether a name of a source is one of a tree that a reader has, or is one by its line."""
-        return name.endswith((".aidl", ".json", ".h", ".cpp", ".sh")) and not name.startswith(("examples/", "tools/", "ci/")) and "tools/" not in line
+        return name.endswith((".aidl", ".json")) and not name.startswith(("examples/", "tools/", "ci/")) and "tools/" not in line
 
     def lost_items(self, line: str, spans: List[str]) -> Iterator[str]:
         """Items, words and types that are in no code, and items that aren't in the crate that is named with them."""
