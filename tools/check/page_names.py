@@ -65,6 +65,7 @@ class Names:
         self.paths = {f"/{path}" for path in inside if not {".git", "out", "__pycache__"} & set(path.parts)}
         kinds = r"\.(rt|antt|py|txt|edit|aidl|rows|json|sh)$|/(aidl|try|run|all|check-api|lines|report|stage|try-calls|book|package|compare|fetch|build)$"
         sources = {path: (TOP / path[1:]).read_text(errors="replace") for path in self.paths if re.search(kinds, path) and (TOP / path[1:]).is_file()}
+        sources = {path: text for path, text in sources.items() if not path.startswith("/tools/check/tests/")}
         self.code = "".join(squeezed(re.sub(r"^ *//.*\n", "", text, flags=re.M)) for path, text in sources.items() if not path.endswith((".rows", ".json")))
         self.known = set(re.findall(r"\w+", "\n".join(sources.values())))
         self.options = OPTIONS | set(re.findall(r"(?<![\w-])--[a-z][\w-]*", "\n".join(text for path, text in sources.items() if "/check/page" not in path)))

@@ -14,7 +14,7 @@ import pytest
 TOP = pathlib.Path(__file__).resolve().parents[3]
 # a page, what is replaced in it (a regular expression, where it stands first), and by what
 SENTENCES = [
-    ("tools/*/README.md", r"`compare", "`hosts.cpp`, `compare"),
+    ("tools/**/README.md", r"`compare", "`hosts.cpp`, `compare"),
     ("docs/CI.md", r"\n\*\*Before the first freeze", "\n```bash\n$ ./aidl judge examples/lights/1 examples/lights/1\nno\n```\n\n**Before the first freeze"),
     ("docs/CI.md", r"\n\*\*Before the first freeze", "\n```console title\n$ ./aidl check examples/lights/1\nok 17 types\n```\n\n**Before the first freeze"),
     ("docs/CI.md", r"\n\*\*Before the first freeze", "\n```\n$ ./aidl check examples/lights/1\nok 17 types\n```\n\n**Before the first freeze"),
@@ -30,7 +30,7 @@ SENTENCES = [
     ("docs/BYTES.md", r"\| `byte` \| `80000000` \| `-128` \|", "| `byte` | `80000000` | `-127` |"),
     ("docs/BYTES.md", r"\| `int\[\]` \| `feffffff` \| UNEXPECTED_NULL \| BAD_VALUE \|", "| `int[]` | `feffffff` | UNEXPECTED_NULL | UNEXPECTED_NULL |"),
     ("docs/EVOLUTION.md", r"`C18 j\.P\.K`", "`C17 j.P.K`"),
-    ("docs/EVOLUTION.md", r"`void x\(in P p\);` \| `void x\(inout", "`void x(in P p);` | `void x(out"),
+    ("docs/EVOLUTION.md", r"`C7 j\.I\.x/0`", "`C6 j.I.x/0`"),
     ("docs/WITNESS.md", r"`read status -61`; `projected returned 0", "`read status -22`; `projected returned 0"),
     ("docs/WITNESS.md", r"\| `call <` with `\[0\]`", "| `call >` with `[0]`"),
     ("docs/WITNESS.md", r"-2147483640", "-2147483641"),
@@ -101,7 +101,8 @@ def test_most_sentences_are_there():
 
 
 def test_every_page_is_looked_at():
-    kept = {it for it in TOP.rglob("*.md") if not {".git", "out"} & set(it.relative_to(TOP).parts)}
+    parts = {it: it.relative_to(TOP).parts for it in TOP.rglob("*.md")}
+    kept = {it for it, names in parts.items() if "out" not in names and not any(name.startswith(".") for name in names)}
     assert kept <= set(pages.PAGES)
 
 
