@@ -19,6 +19,7 @@ ELSEWHERE |= {"aidl_interface", "aidl_api", "versions_with_info", "cpp_header", 
 ELSEWHERE |= {"IsAlwaysCallable", "SplitsAtFirstByte", "EndsAlike", "ExtraK", "Equivalent"}
 # of libbinder
 ELSEWHERE |= {"get_sched_policy", "set_sched_policy", "BBinder", "AParcel_readData", "AParcel_writeData"}
+ELSEWHERE |= {"get_sched_policy", "set_sched_policy", "BBinder", "Parcel.cpp", "Parcel.h", "Status.cpp", "Status.h", "Binder.cpp", "IPCThreadState.cpp", "ProcessState.cpp"}
 # options of the kit's commands, and of git's and the system's
 OPTIONS = {"--only", "--lib", "--start", "--allow-holes", "--no-patch", "--format", "--tool"}
 CLAUSES = r"(?:ensures|requires|law) (\w+) \{"
@@ -65,6 +66,7 @@ class Names:
         self.paths = {f"/{path}" for path in inside if not {".git", "out", "__pycache__"} & set(path.parts)}
         kinds = r"\.(rt|antt|py|txt|edit|aidl|rows|json|sh)$|/(aidl|try|run|all|check-api|lines|report|stage|try-calls|book|package|compare|fetch|build)$"
         sources = {path: (TOP / path[1:]).read_text(errors="replace") for path in self.paths if re.search(kinds, path) and (TOP / path[1:]).is_file()}
+        sources = {path: text for path, text in sources.items() if not path.startswith("/tools/check/tests/")}
         self.code = "".join(squeezed(re.sub(r"^ *//.*\n", "", text, flags=re.M)) for path, text in sources.items() if not path.endswith((".rows", ".json")))
         self.known = set(re.findall(r"\w+", "\n".join(sources.values())))
         self.options = OPTIONS | set(re.findall(r"(?<![\w-])--[a-z][\w-]*", "\n".join(text for path, text in sources.items() if "/check/page" not in path)))
@@ -118,7 +120,7 @@ class Names:
 
     def is_example(self, name: str, line: str) -> bool:
         """Whether a name of a source is one of a tree that a reader has, or is one by its line."""
-        return name.endswith((".aidl", ".json", ".h", ".cpp", ".sh")) and not name.startswith(("examples/", "tools/", "ci/")) and "tools/" not in line
+        return name.endswith((".aidl", ".json")) and not name.startswith(("examples/", "tools/", "ci/")) and "tools/" not in line
 
     def lost_items(self, line: str, spans: List[str]) -> Iterator[str]:
         """Items, words and types that are in no code, and items that aren't in the crate that is named with them."""

@@ -24,7 +24,7 @@ import page_names
 import page_tables
 
 TOP = pathlib.Path(__file__).resolve().parents[2]
-WHERE = ("README.md", "examples/README.md", "docs/**/*.md", "ci/*.md", "vectors/README*", "tools/*/README.md", "crates/*/data/README*")
+WHERE = ("README.md", "examples/README.md", "docs/**/*.md", "ci/*.md", "vectors/README*", "tools/**/README.md", "crates/*/data/README*")
 PAGES = sorted({path for where in WHERE for path in TOP.glob(where)})
 
 
