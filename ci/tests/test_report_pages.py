@@ -60,6 +60,12 @@ def test_the_picture_of_the_page_is_made_by_the_tool(program, monkeypatch):
     assert "speed.low = 0" in texts and "speed.high = 0" in texts
 
 
+def test_a_report_without_bytes_has_a_picture_that_says_so(program, monkeypatch):
+    monkeypatch.chdir(TOP)
+    made = report.picture(report.made(Program(program), "examples/lights/1", "examples/lights/3"))
+    assert ">compatible, both ways</text>" in made and xml.etree.ElementTree.fromstring(made) is not None
+
+
 def many(folder: pathlib.Path, name: str, more: str) -> None:
     """600 types: interfaces with methods, parcelables with fields, enums; `more` is put into some of them."""
     for number in range(600):

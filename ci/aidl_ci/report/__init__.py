@@ -18,7 +18,8 @@ from .sarif import sarif
 from .text import text
 from .trees import Room
 
-FORMS: dict[str, Callable[[Report], str]] = {"text": text, "markdown": markdown, "html": page, "sarif": sarif, "github": github, "svg": picture}
+FORMS: dict[str, Callable[[Report], str]] = {"text": text, "markdown": markdown, "html": page, "sarif": sarif, "github": github}
+WITH_PICTURE = {**FORMS, "svg": picture}
 
 
 def made(program: Program, old: str, new: Optional[str], *, api: bool = False, titles: tuple[str, str] = ("", ""), notes: Sequence[str] = ()) -> Report:
@@ -34,7 +35,7 @@ def made(program: Program, old: str, new: Optional[str], *, api: bool = False, t
 
 def written(report: Report, paths: dict[str, Optional[str]]) -> None:
     """Writes each form that has a path, `-` for standard output. All are made before the first is written, so a fault leaves no file."""
-    texts = [(path, FORMS[form](report)) for form, path in paths.items() if path is not None]
+    texts = [(path, WITH_PICTURE[form](report)) for form, path in paths.items() if path is not None]
     for path, told in texts:
         if path == "-":
             sys.stdout.write(told)
@@ -79,7 +80,7 @@ def main(words: list[str]) -> int:
     if len(options.trees) != (1 if options.api else 2):
         reader.error("OLD NEW, or --api API TREE")
     use_utf8()
-    forms = {form: getattr(options, form) for form in FORMS}
+    forms = {form: getattr(options, form) for form in WITH_PICTURE}
     if not any(forms.values()):
         forms["text"] = "-"
     program = Program()

@@ -5,7 +5,6 @@ from __future__ import annotations
 from typing import Iterator, Optional
 from xml.sax.saxutils import escape
 
-from ..guard import Fault
 from ..printing import plain
 from .model import Report
 from .parcels import Cell, Row
@@ -23,17 +22,19 @@ STYLE = (
 
 
 def picture(report: Report) -> str:
-    """The picture, as SVG, of the first break that some bytes show."""
+    """The picture, as SVG, of the first break that some bytes show; of a report without one it is the verdict."""
     example = next((cause.shown for cause in report.causes if cause.shown and any(row.differs for row in cause.shown.rows)), None)
-    if example is None:
-        raise Fault("no bytes are read otherwise here, so there is nothing to draw")
-    boxes = [row for row in example.rows if not (row.wrote and row.wrote.key == ("token",))][:MOST]
+    boxes = [row for row in example.rows if not (row.wrote and row.wrote.key == ("token",))][:MOST] if example else []
     lines = list(broken(boxes))
-    high = TOP + HIGH * len(lines) + 8
-    parts = [said(LEFT, 24, f"{example.head()}; {harm(example)}", "d")]
+    title = f"{example.head()}; {harm(example)}" if example else report.verdict()
+    parts = [said(LEFT, 24, title, "d")]
     for number, line in enumerate(lines):
-        parts += of_line(line, TOP + HIGH * number, example)
-    label = escape(plain(f"{example.head()}: the same bytes, written as one thing and read as another"), {'"': "&quot;"})
+        parts += of_line(line, TOP + HIGH * number, example) if example else []
+    return drawing(TOP + HIGH * len(lines) + 8, title, parts)
+
+
+def drawing(high: int, title: str, parts: list[str]) -> str:
+    label = escape(plain(title), {'"': "&quot;"})
     head = f'<svg xmlns="http://www.w3.org/2000/svg" width="{WIDTH}" height="{high}" viewBox="0 0 {WIDTH} {high}" role="img" aria-label="{label}">'
     return f"{head}<style>{STYLE}</style>{''.join(parts)}</svg>\n"
 

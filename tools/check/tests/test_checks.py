@@ -74,7 +74,8 @@ class Gate:
 
     def __init__(self, top: pathlib.Path, program: pathlib.Path):
         self.top = top
-        shutil.copytree(TOP / "examples", top / "examples")
+        for name in ("examples", "vectors"):
+            shutil.copytree(TOP / name, top / name)
         (top / ".ci").mkdir()
         shutil.copy(TOP / ".ci/run", top / ".ci/run")
         (top / "bin").mkdir()
