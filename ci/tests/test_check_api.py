@@ -238,6 +238,16 @@ def test_a_program_that_is_another(scratch, printed):
     assert scratch.job("hal", "api", AIDL=str(odd)).status == 2
 
 
+@pytest.mark.parametrize("does, status", [("exit 5", 5), ("exit 7", 7), ("echo yes, or so", 2), ("exit 0", 2), ("echo no; exit 1", 2)])
+def test_a_judge_that_answers_otherwise(scratch, does, status):
+    """Only `judge` fails, and it gives no verdict."""
+    odd = scratch.room / "odd"
+    odd.write_text(f'#!/bin/sh\n[ "$1" != judge ] || {{ {does}; exit; }}\nexec {scratch.program} "$@"\n')
+    odd.chmod(0o755)
+    came = scratch.job("hal", "api", AIDL=str(odd))
+    assert came.status == status and "aidl witness" not in came.printed, came
+
+
 def test_a_program_that_is_killed(scratch):
     odd = scratch.room / "odd"
     odd.write_text("#!/bin/sh\nkill -9 $$\n")

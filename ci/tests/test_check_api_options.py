@@ -141,6 +141,15 @@ def test_names_are_no_commands_of_a_workflow(scratch, name):
     assert found[0].startswith("::error::check-api: there is no folder " + name.replace("%", "%25").replace("\n", "%0A").replace("\r", "%0D")), came
 
 
+def test_a_tree_whose_name_is_a_command_of_a_workflow(scratch):
+    """The line of its fault begins with its name."""
+    (scratch.room / "hal/lights/Light.aidl").write_text("package lights;\nparcelable Light {\n    Colour c;\n}\n")
+    (scratch.room / "hal").rename(scratch.room / "::stop-commands::x")
+    came = scratch.job("::stop-commands::x", "api", GITHUB_ACTIONS="true")
+    assert came.status == 1 and came.says("\n ::stop-commands::x/lights/Light.aidl:3:5: E4 UnknownType"), came
+    assert not [line for line in came.printed.splitlines() if line.startswith("::stop")], came
+
+
 def test_sources_are_no_commands_of_a_workflow(scratch):
     """A line end within a comment, for a reader that ends lines there, and what turns a terminal red."""
     (scratch.room / "hal/lights/Light.aidl").write_bytes(b"package lights;\nparcelable Light { /* \r::stop-commands::x \x1b[31m */ Colour c; }\n")
