@@ -92,7 +92,7 @@ def wrong_statuses(text: str, known: Dict[str, int]) -> Iterator[Finding]:
     numbers = ENDS | set(known.values())
     words = "|".join(known)
     for number, line in page_names.prose(text):
-        for it in re.findall(r"(?<![\w.\]-])-\d{2,}\b(?![.,]?\d)", line):
+        for it in re.findall(r"(?<![\w.+\]-])-\d{2,}\b(?![.,]?\d)", line):
             if int(it) not in numbers:
                 yield number, f"{it} is no status"
         for name in re.finditer(rf"\b(?:{words})\b", line):
